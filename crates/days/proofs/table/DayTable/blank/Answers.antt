@@ -1,0 +1,7 @@
+use mathlib.Core.Path.{refl}
+use Rattle.days.specs.Days.{blank-days}
+use Rattle.days.proofs.Rules.{bounded-from-test}
+use Rattle.days.proofs.table.DayTable.blank.Needs as need
+
+pub ghost-result : need.ghost-result
+ghost-result c = (refl, (bounded-from-test blank-days refl, tt))
