@@ -1,0 +1,3 @@
+pub mod lent;
+pub mod rounding;
+pub mod source;
