@@ -1,3 +1,4 @@
 pub mod Tables
 pub mod Rules
 pub mod Ranges
+pub mod Asked

@@ -1,0 +1,4 @@
+pub mod Puts
+pub mod Asks
+pub mod Means
+pub mod Pages

@@ -1,0 +1,4 @@
+pub mod Quotes
+pub mod Mean
+pub mod Board
+pub mod Quoting

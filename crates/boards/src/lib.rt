@@ -1,0 +1,3 @@
+pub mod board;
+pub mod quoting;
+pub mod reading;
