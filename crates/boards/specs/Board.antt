@@ -1,5 +1,6 @@
 -- What a board means, and what a call changes of it. Assumes nothing.
 use mathlib.Core.Path.{_≡_}
+use mathlib.Core.List.{List}
 use Prim.Native.Nat.{ℕ}
 use lib.IntN.{ℤ}
 use Rattle.std.specs.declared.option.Option.{Option}
@@ -8,8 +9,7 @@ use Rattle.days.specs.declared.table.DayTable.{DayTable}
 use Rattle.sources.specs.Page.{Page}
 use Rattle.boards.specs.declared.board.Board.{Board}
 use Rattle.boards.specs.Quotes.{latest}
-use Rattle.boards.specs.Mean.{Shows, shown}
-use mathlib.Core.List.{List}
+use Rattle.boards.specs.Mean.{shown}
 
 abbrev pub boardPage : Board → Page
 boardPage b = record { valuation = b .valuation; days = b .days .days; figure = shown (b .shares) (b .quotes) }
@@ -28,3 +28,9 @@ pub record OnlyQuote (b a : Board) (p k : ℕ) (o : Option ℤ) : Type 0 where
   pub dated : a .valuation ≡ b .valuation
   pub tabled : a .days ≡ b .days
   pub shared : a .shares ≡ b .shares
+
+-- page p′ is page p but for the figure of line k
+pub record OnlyLine (p p′ : Page) (k : ℕ) : Type 0 where
+  pub dated : p′ .valuation ≡ p .valuation
+  pub tabled : p′ .days ≡ p .days
+  pub others : (j : ℕ) → (j ≡ k → ⊥) → p′ .figure j ≡ p .figure j

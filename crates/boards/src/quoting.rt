@@ -6,10 +6,12 @@ ghost use Prim.Native.Nat.{ℕ, _<_, _≤_};
 ghost use lib.ListN.{getD, set};
 ghost use Rattle.std.specs.declared.option.Option.the-variants.{Some, None};
 ghost use Rattle.std.specs.Results.{Cases};
+ghost use Rattle.std.specs.Vec.{made};
 ghost use Rattle.days.specs.Questions.{refusalOf, firstFailing};
 ghost use Rattle.days.specs.Told.{toldSource};
-ghost use Rattle.boards.specs.Quotes.{fits};
-ghost use Rattle.boards.specs.Board.{Fresh, OnlyQuote};
+ghost use Rattle.sources.specs.Page.{Present};
+ghost use Rattle.boards.specs.Quotes.{shareOf, fits};
+ghost use Rattle.boards.specs.Board.{boardPage, Fresh, OnlyQuote, OnlyLine};
 ghost use Rattle.boards.specs.Quoting.{unquoting, quoting, Refused};
 use crate::board::Board;
 use days::fault::SourceFault;
@@ -66,10 +68,12 @@ impl Board {
         self.quotes[provider][line] = quote;
     }
 
-    // A provider's quote for a line; the latest rules.
+    // A provider's quote for a line; the latest rules. Its line then shows a figure, unless the provider's share is 0.
     pub fn quote(&mut self, provider: usize, line: usize, figure: i32) -> Result<(), SourceFault>
         ensures answer { λ r. ⌜ refusalOf toldSource r ≡ firstFailing (quoting provider line figure) ⌝ }
         ensures board { λ r. ⌜ Cases r (λ _. OnlyQuote (now (self .entry)) (now (self .exit)) provider line (Some figure)) (λ _. now (self .exit) ≡ now (self .entry)) ⌝ }
+        ensures page { λ r. ⌜ made r (λ _. OnlyLine (boardPage (now (self .entry))) (boardPage (now (self .exit))) line) ⌝ }
+        ensures shown { λ r. ⌜ made r (λ _. 0 < shareOf (now (self .entry) .shares) provider → Present (boardPage (now (self .exit))) line) ⌝ }
     {
         ask_quote(provider, line, figure)?;
         self.put(provider, line, Some(figure));
@@ -80,6 +84,7 @@ impl Board {
     pub fn unquote(&mut self, provider: usize, line: usize) -> Result<(), SourceFault>
         ensures answer { λ r. ⌜ refusalOf toldSource r ≡ firstFailing (unquoting provider line) ⌝ }
         ensures board { λ r. ⌜ Cases r (λ _. OnlyQuote (now (self .entry)) (now (self .exit)) provider line None) (λ _. now (self .exit) ≡ now (self .entry)) ⌝ }
+        ensures page { λ r. ⌜ made r (λ _. OnlyLine (boardPage (now (self .entry))) (boardPage (now (self .exit))) line) ⌝ }
     {
         ask_place(provider, line)?;
         self.put(provider, line, None);
