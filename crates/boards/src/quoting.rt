@@ -21,6 +21,9 @@ use days::table::DayTable;
 
 pub const PROVIDERS: usize = 8;
 
+const LAST_VALUATION_DAY: u32 = 100_000;
+const LARGEST_SHARE: u32 = 10_000;
+
 // Is there such a provider, and such a line?
 fn ask_place(provider: usize, line: usize) -> Result<(), SourceFault>
     ensures { λ r. ⌜ refusalOf toldSource r ≡ firstFailing (unquoting provider line) ⌝ }
@@ -49,11 +52,11 @@ impl Board {
     pub fn new(valuation: u32, days: DayTable, shares: [u32; 8]) -> Result<Board, SourceFault>
         ensures { λ r. ⌜ Cases r (Fresh valuation days shares) (Refused valuation shares) ⌝ }
     {
-        if valuation > 100_000 {
+        if valuation > LAST_VALUATION_DAY {
             return Err(SourceFault::ValuationDayTooLate);
         }
         for provider in 0..PROVIDERS {
-            if shares[provider] > 10_000 {
+            if shares[provider] > LARGEST_SHARE {
                 return Err(SourceFault::ShareTooLarge { provider });
             }
         }

@@ -10,11 +10,11 @@ use Rattle.boards.specs.Quotes.{fits}
 use Rattle.boards.proofs.Puts.{no-quotes, empty-rows}
 use Rattle.boards.proofs.board.Board.new.Needs as need
 
-pub returns-then-shares-provider-gt10000 : need.returns-then-shares-provider-gt10000
-returns-then-shares-provider-gt10000 c =
-    inr (c .if-valuation-gt100000 .left, (c .loop-provider .provider, refl, record {
+pub returns-then-shares-provider-gt-LARGEST-SHARE : need.returns-then-shares-provider-gt-LARGEST-SHARE
+returns-then-shares-provider-gt-LARGEST-SHARE c =
+    inr (c .if-valuation-gt-LAST-VALUATION-DAY .left, (c .loop-provider .provider, refl, record {
       place = c .loop-provider-test .taken;
-      fails = λ h. omega (arith, h, c .if-shares-provider-gt10000 .taken);
+      fails = λ h. omega (arith, h, c .if-shares-provider-gt-LARGEST-SHARE .taken);
       before = c .loop-provider .inv
     }))
 

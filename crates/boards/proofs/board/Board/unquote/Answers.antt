@@ -1,4 +1,5 @@
 use mathlib.Core.Path.{refl}
+use borrow.Author.Needs.{needs}
 use Rattle.std.specs.declared.option.Option.the-variants.{None}
 use Rattle.std.proofs.shelf.Results.{err-from-errBy}
 use Rattle.boards.proofs.Asks.{unquoting-passed}
@@ -8,7 +9,7 @@ use Rattle.boards.proofs.board.Board.unquote.Needs as need
 pub put-requires : need.put-requires
 put-requires c κs =
     let a = unquoting-passed (c .args .provider) (c .args .line) (c .in-Continue-ask-place .ensures tt) in
-    (a .0, (a .1, refl))
+    search needs
 
 pub returns-in-Break-ask-place : need.returns-in-Break-ask-place
 returns-in-Break-ask-place c =
