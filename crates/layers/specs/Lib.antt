@@ -1,0 +1,4 @@
+pub mod Gap
+pub mod Filled
+pub mod Reserve
+pub mod Lent

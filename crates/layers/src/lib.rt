@@ -1,0 +1,2 @@
+pub mod gap;
+pub mod reserve;
