@@ -24,7 +24,7 @@ module _ (s : List ℕ) (q r : List (List (Option ℤ))) (k : ℕ) (same : (p : 
   total-same zero = refl
   total-same (suc n) = λ i. total-same n i +ℤ weighed (shareOf s n) (same n i)
 
-  shown-same : shown s r k ≡ shown s q k
+  pub shown-same : shown s r k ≡ shown s q k
   shown-same = λ i. meanOf (total-same 8 i) (weight-same 8 i)
 
 module _ (b a : Board) (p k : ℕ) (o : Option ℤ) (only : OnlyQuote b a p k o) where
