@@ -70,17 +70,15 @@ module _ (p : Page) (k : ℕ) where
   hole-fills : (from end : ℕ) → Hole p from end k → Fills p k (gapFigure p k)
   hole-fills from end h = subst (Fills p k) (sym (at-hole from end h)) (bridged-fills from end h)
 
+  apart-fills : p .figure k ≡ None → (k < 8) ⊎ (29 ≤ k) → Fills p k (gapFigure p k)
+  apart-fills e l = apart e l (at-apart e l)
+
   absent-fills : p .figure k ≡ None → Fills p k (gapFigure p k)
-  absent-fills e = ⊎-elim
-      (λ l. apart e (inl l) (at-apart e (inl l)))
-      (λ a. ⊎-elim
-        (λ b. hole-fills 8 16 (record { group = inl (refl, refl); low = a; high = b; absent = e }))
-        (λ b. ⊎-elim
-          (λ c. hole-fills 16 29 (record { group = inr (refl, refl); low = b; high = c; absent = e }))
-          (λ c. apart e (inr c) (at-apart e (inr c)))
-          (cases-lt k 29))
-        (cases-lt k 16))
-      (cases-lt k 8)
+  absent-fills e =
+      let points : 8 ≤ k → k < 16 → Fills p k (gapFigure p k) = λ l h. hole-fills 8 16 (record { group = inl (refl, refl); low = l; high = h; absent = e }) in
+      let uf : 16 ≤ k → k < 29 → Fills p k (gapFigure p k) = λ l h. hole-fills 16 29 (record { group = inr (refl, refl); low = l; high = h; absent = e }) in
+      let past : 16 ≤ k → Fills p k (gapFigure p k) = λ l. ⊎-elim (uf l) (λ h. apart-fills e (inr h)) (cases-lt k 29) in
+      ⊎-elim (λ l. apart-fills e (inl l)) (λ l. ⊎-elim (points l) past (cases-lt k 16)) (cases-lt k 8)
 
   pub fills : Fills p k (gapFigure p k)
   fills = by-figure (p .figure k) refl

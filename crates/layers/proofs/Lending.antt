@@ -1,8 +1,8 @@
 -- The page made by the test is the one page with the reserve, and a sound one. Assumes nothing.
 use mathlib.Core.Path.{_≡_, refl, sym, ap, _∙_, subst}
 use mathlib.Core.Logic.{_⊎_, inl, inr, ⊎-elim}
-use mathlib.Core.Bool.{true, cond, not, _&&_}
-use Prim.Native.Nat.{ℕ, _+_, _-_, _<_, _≤_}
+use mathlib.Core.Bool.{cond, not, _&&_}
+use Prim.Native.Nat.{ℕ, _+_, _-_, _≤_}
 use native.Mathlib.Omega.{arith}
 use lib.IntN.{ℤ}
 use Rattle.std.specs.declared.option.Option.{Option}
@@ -29,7 +29,7 @@ module _ (p : Page) where
   row-decides i =
       decides-like (gone p i) (λ h. (h .0, h .1 .0, h .1 .1)) (λ h. (h .0, (h .1, h .2)))
       (decides-and (absent p i) (absent p (i + 1) && absent p (i + 2)) (absent-decides (p .figure i))
-        (decides-and (absent p (i + 1)) (absent p (i + 2)) (absent-decides (p .figure (i + 1))) (absent-decides (p .figure (i + 2)))))
+      (decides-and (absent p (i + 1)) (absent p (i + 2)) (absent-decides (p .figure (i + 1))) (absent-decides (p .figure (i + 2)))))
 
   pub thin-decides : Decides (thin p) (Thin p)
   unfolding thin
@@ -69,14 +69,14 @@ module _ (p q : Page) where
 
   pub reserve-means : Reserved p q (reservePage p q)
   reserve-means = record {
-      dated = refl;
-      tabled = refl;
-      spot = λ x e. ap (λ o. orOther o (q .figure 0)) e;
-      spot-lent = λ e. ap (λ o. orOther o (q .figure 0)) e;
-      points-lent = λ t k l h. points-lent k l h t;
-      points = λ t k l h. points-kept k l h t;
-      others = others-kept
-    }
+    dated = refl;
+    tabled = refl;
+    spot = λ x e. ap (λ o. orOther o (q .figure 0)) e;
+    spot-lent = λ e. ap (λ o. orOther o (q .figure 0)) e;
+    points-lent = λ t k l h. points-lent k l h t;
+    points = λ t k l h. points-kept k l h t;
+    others = others-kept;
+  }
 
   pub reserve-one : (r : Page) → Reserved p q r → r ≡ reservePage p q
   reserve-one r a t = record { valuation = a .dated t; days = a .tabled t; figure = λ k. same k t }
@@ -104,9 +104,9 @@ module _ (p q : Page) where
 
   pub reserve-sound : Sound p → Sound q → Sound (reservePage p q)
   reserve-sound a b = record {
-      dated = a .dated;
-      long = a .long;
-      lawful = a .lawful;
-      ranged = λ k x e. ⊎-elim (λ h. a .ranged k x (sym h ∙ e)) (λ h. b .ranged k x (sym h ∙ e)) (either k);
-      past = λ k h. others-kept k (inr (omega arith)) ∙ a .past k h
-    }
+    dated = a .dated;
+    long = a .long;
+    lawful = a .lawful;
+    ranged = λ k x e. ⊎-elim (λ h. a .ranged k x (sym h ∙ e)) (λ h. b .ranged k x (sym h ∙ e)) (either k);
+    past = λ k h. others-kept k (inr (omega arith)) ∙ a .past k h;
+  }

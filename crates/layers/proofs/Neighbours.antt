@@ -1,7 +1,7 @@
 -- Neighbours of one group have rising days and one range, so a filled page is sound. Assumes nothing.
 use mathlib.Core.Path.{_≡_, refl, sym, _∙_, subst}
 use mathlib.Core.List.{List}
-use mathlib.Core.Logic.{_⊎_, inl, inr, ⊎-elim}
+use mathlib.Core.Logic.{inl, inr, ⊎-elim}
 use Prim.Native.Nat.{ℕ, zero, suc, _-_, _<_, _≤_}
 use native.Mathlib.Omega.{arith}
 use lib.Dec.{lit<}
@@ -53,22 +53,24 @@ pub record Between (d : List ℕ) (k i j : ℕ) (y z : ℤ) : Type 0 where
 module _ (p : Page) (sound : Sound p) (k : ℕ) where
   shares : (from end i : ℕ) (y : ℤ) → Hole p from end k → from ≤ i → i < end → p .figure i ≡ Some y → InRange k y
   shares from end i y h low high there =
-      let r = sound .ranged i y there in
-      (subst (λ z. z ≤ℤ y) (group-one from end i k _ _ _ _ (h .group) low high (h .low) (h .high)) (r .0),
-       subst (λ z. y ≤ℤ z) (group-one from end i k _ _ _ _ (h .group) low high (h .low) (h .high)) (r .1))
+      let r = sound .ranged i y there in (
+        subst (λ z. z ≤ℤ y) (group-one from end i k _ _ _ _ (h .group) low high (h .low) (h .high)) (r .0),
+        subst (λ z. y ≤ℤ z) (group-one from end i k _ _ _ _ (h .group) low high (h .low) (h .high)) (r .1),
+      )
 
   pub between : (from end i j : ℕ) (y z : ℤ) → Hole p from end k → Below p from k i y → Above p end k j z → Between (p .days) k i j y z
   between from end i j y z h a b = record {
-      before = rising (p .days) (sound .lawful) from end i k (h .group) (a .within) (a .under) (h .high);
-      after = rising (p .days) (sound .lawful) from end k j (h .group) (h .low) (b .over) (b .within);
-      lower = shares from end i y h (a .within) (omega (arith, a .under, h .high)) (a .there);
-      upper = shares from end j z h (omega (arith, b .over, h .low)) (b .within) (b .there)
-    }
+    before = rising (p .days) (sound .lawful) from end i k (h .group) (a .within) (a .under) (h .high);
+    after = rising (p .days) (sound .lawful) from end k j (h .group) (h .low) (b .over) (b .within);
+    lower = shares from end i y h (a .within) (omega (arith, a .under, h .high)) (a .there);
+    upper = shares from end j z h (omega (arith, b .over, h .low)) (b .within) (b .there);
+  }
 
   line-ranged : (i j : ℕ) (y z : ℤ) → Between (p .days) k i j y z → InRange k (straight (day (p .days) i) y (day (p .days) j) z (day (p .days) k))
-  line-ranged i j y z t =
-      (straight-low (day (p .days) i) y (day (p .days) j) z (day (p .days) k) (omega (arith, t .before)) (t .after) (lowest k) (t .lower .0) (t .upper .0),
-       straight-high (day (p .days) i) y (day (p .days) j) z (day (p .days) k) (omega (arith, t .before)) (t .after) (highest k) (t .lower .1) (t .upper .1))
+  line-ranged i j y z t = (
+    straight-low (day (p .days) i) y (day (p .days) j) z (day (p .days) k) (omega (arith, t .before)) (t .after) (lowest k) (t .lower .0) (t .upper .0),
+    straight-high (day (p .days) i) y (day (p .days) j) z (day (p .days) k) (omega (arith, t .before)) (t .after) (highest k) (t .lower .1) (t .upper .1),
+  )
 
   filled-ranged : (o : Option ℤ) (x : ℤ) → Fills p k o → o ≡ Some x → InRange k x
   filled-ranged o x (kept v a e) s = sound .ranged k x (let u = s in cc)
@@ -80,9 +82,9 @@ module _ (p : Page) (sound : Sound p) (k : ℕ) where
 
 pub gap-sound : (p : Page) → Sound p → Sound (gapPage p)
 gap-sound p sound = record {
-    dated = sound .dated;
-    long = sound .long;
-    lawful = sound .lawful;
-    ranged = λ k x. filled-ranged p sound k (gapFigure p k) x (fills p k);
-    past = λ k h. sym (fills-is p k None (apart (sound .past k h) (inr h) refl))
-  }
+  dated = sound .dated;
+  long = sound .long;
+  lawful = sound .lawful;
+  ranged = λ k x. filled-ranged p sound k (gapFigure p k) x (fills p k);
+  past = λ k h. sym (fills-is p k None (apart (sound .past k h) (inr h) refl));
+}

@@ -1,8 +1,8 @@
 -- Looking from line to line finds the nearest neighbours. Assumes nothing.
-use mathlib.Core.Path.{_≡_, refl, sym, ap, subst}
-use mathlib.Core.Logic.{_⊎_, inl, inr, ⊎-elim}
+use mathlib.Core.Path.{_≡_, refl, ap, subst}
+use mathlib.Core.Logic.{⊎-elim}
 use mathlib.Core.Bool.{cond}
-use Prim.Native.Nat.{ℕ, zero, suc, _+_, _-_, _<_, _≤_}
+use Prim.Native.Nat.{ℕ, zero, suc, _<_, _≤_}
 use native.Mathlib.Omega.{arith}
 use lib.Dec.{ltb}
 use lib.IntN.{ℤ}
@@ -17,12 +17,9 @@ use Rattle.layers.specs.Filled.{seen, below, above}
 pub clash : {A : Type 0} (o : Option ℤ) (x : ℤ) → o ≡ Some x → o ≡ None → A
 clash o x e f = absurd (let z : _≡_ {A = ℕ} 0 1 = cc in omega arith)
 
--- one line more, at either end
-pub last : (P : ℕ → Type 0) (i k : ℕ) → (i < k → P i) → P k → i ≤ k → P i
+-- one line more
+last : (P : ℕ → Type 0) (i k : ℕ) → (i < k → P i) → P k → i ≤ k → P i
 last P i k before here h = ⊎-elim before (λ g. subst P (omega arith) here) (cases-lt i k)
-
-pub first : (P : ℕ → Type 0) (i k : ℕ) → (k < i → P i) → P k → k ≤ i → P i
-first P i k after here h = ⊎-elim after (λ g. subst P (omega arith) here) (cases-lt k i)
 
 module _ (p : Page) where
   abbrev Gone : ℕ → Type 0
@@ -38,9 +35,11 @@ module _ (p : Page) where
   step-below from k (Some y) o inside here rest = record { within = inside; under = omega arith; there = here; nearest = λ i a b. absurd (omega arith) }
   step-below from k None None inside here rest = λ i a b. last Gone i k (rest i a) here (omega arith)
   step-below from k None (Some n) inside here rest = record {
-      within = rest .within; under = omega (arith, rest .under); there = rest .there;
-      nearest = λ i a b. last Gone i k (rest .nearest i a) here (omega arith)
-    }
+    within = rest .within;
+    under = omega (arith, rest .under);
+    there = rest .there;
+    nearest = λ i a b. last Gone i k (rest .nearest i a) here (omega arith);
+  }
 
   pub seek-below : (from k : ℕ) → SoughtBelow from k (below p from k)
   seek-below from zero = λ i a b. absurd (omega arith)

@@ -7,7 +7,8 @@ ghost use Rattle.sources.specs.Page.{Page};
 ghost use Rattle.layers.specs.Gap.{straight, Hole, Below, Above, NoneBelow, NoneAbove, Fills, Gapped};
 ghost use Rattle.layers.specs.Filled.{gapPage};
 use days::table::DayTable;
-use sources::rounding::{floor_div, weigh};
+use sources::rounding::floor_div;
+use sources::rounding::weigh;
 use sources::source::QuoteSource;
 
 // A present line and its figure.
@@ -36,7 +37,6 @@ fn straight_at(low: Dated, high: Dated, day: u32) -> Option<i32>
 
 // The nearest present line below a line, from line `from` on.
 fn nearest_below<S: QuoteSource>(s: &S, from: usize, line: usize) -> Option<Seen>
-    requires { ⌜ line < 29 ⌝ }
     ensures { λ r. ⌜ Cases r (NoneBelow (page (now (s .entry))) from line) (λ n. Below (page (now (s .entry))) from line (n .line) (n .figure)) ⌝ }
 {
     for j in (from..line).rev() {
@@ -67,8 +67,14 @@ fn bridge<S: QuoteSource>(s: &S, from: usize, end: usize, line: usize) -> Option
 {
     let below = nearest_below(s, from, line)?;
     let above = nearest_above(s, line, end)?;
-    let low = Dated { day: s.day(below.line), figure: below.figure };
-    let high = Dated { day: s.day(above.line), figure: above.figure };
+    let low = Dated {
+        day: s.day(below.line),
+        figure: below.figure,
+    };
+    let high = Dated {
+        day: s.day(above.line),
+        figure: above.figure,
+    };
     straight_at(low, high, s.day(line))
 }
 
@@ -91,7 +97,7 @@ pub struct Gap<S> {
 }
 
 impl<S: QuoteSource> Gap<S> {
-    // The one way to fill the gaps of the source below.
+    // The source below with its gaps filled: its page is the one page so filled.
     pub fn over(below: S) -> Gap<S>
         ensures kept { λ r. ⌜ r .below ≡ below ⌝ }
         ensures means { λ _. ⌜ Gapped (page below) (gapPage (page below)) ⌝ }

@@ -42,7 +42,7 @@ pub struct Reserve<A, B> {
 }
 
 impl<A: QuoteSource, B: QuoteSource> Reserve<A, B> {
-    // The one way to keep the second source in reserve.
+    // The first source with the second in reserve: its page is the one page so made.
     pub fn of(first: A, second: B) -> Reserve<A, B>
         ensures kept { λ r. ⌜ r .first ≡ first ⌝ ∗ ⌜ r .second ≡ second ⌝ }
         ensures means { λ _. ⌜ Reserved (A·QuoteSource .page first) (B·QuoteSource .page second) (reservePage (A·QuoteSource .page first) (B·QuoteSource .page second)) ⌝ }

@@ -15,7 +15,7 @@ returns-in-Some g c =
     let there : p .figure (c .args .line) ≡ Some x = sym (c .figure .ensures .answer) ∙ c .in-Some .is in
     record {
       answer = ap Some (toZ-ofZ w32 x (search needs)) ∙ fills-is p (c .args .line) (Some x) (kept x there refl);
-      sound = gap-sound p (c .figure .ensures .sound)
+      sound = gap-sound p (c .figure .ensures .sound);
     }
 
 pub returns-in-None : need.returns-in-None
@@ -23,5 +23,5 @@ returns-in-None g c =
     let p = g .S·QuoteSource .page (c .args .self .now .below) in
     record {
       answer = fills-is p (c .args .line) (c .fill .result) (c .fill .ensures);
-      sound = gap-sound p (c .figure .ensures .sound)
+      sound = gap-sound p (c .figure .ensures .sound);
     }

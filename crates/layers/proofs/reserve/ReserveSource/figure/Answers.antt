@@ -10,7 +10,7 @@ returns-then-is-thin g c =
     let q = g .B·QuoteSource .page (c .args .self .now .second) in
     record {
       answer = c .figure-lent .ensures .answer ∙ sym (points-lent p q (c .args .line) (omega arith) (omega arith) (c .is-thin .ensures .0 (c .if-is-thin .taken)));
-      sound = reserve-sound p q (c .figure-own .ensures .sound) (c .figure-lent .ensures .sound)
+      sound = reserve-sound p q (c .figure-own .ensures .sound) (c .figure-lent .ensures .sound);
     }
 
 pub returns-else-is-thin : need.returns-else-is-thin
@@ -19,5 +19,5 @@ returns-else-is-thin g c =
     let q = g .B·QuoteSource .page (c .args .self .now .second) in
     record {
       answer = c .figure-own .ensures .answer ∙ sym (points-kept p q (c .args .line) (omega arith) (omega arith) (not-from-decides (c .is-thin .result) (c .is-thin .ensures) (c .if-is-thin .left)));
-      sound = reserve-sound p q (c .figure-own .ensures .sound) (c .figure-lent .ensures .sound)
+      sound = reserve-sound p q (c .figure-own .ensures .sound) (c .figure-lent .ensures .sound);
     }
