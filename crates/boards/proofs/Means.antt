@@ -59,15 +59,17 @@ module _ (s : List ℕ) (q : List (List (Option ℤ))) (k : ℕ) where
 
   module _ (ranged : (p : ℕ) → fits k (latest q p k) ≡ true) where
     pub total-wide : (n : ℕ) → ((negsuc 1999999 *ℤ pos (weight s q k n)) ≤ℤ total s q k n) × (total s q k n ≤ℤ (pos 800000000 *ℤ pos (weight s q k n)))
-    total-wide n =
-        (total-low (negsuc 1999999) (λ p x e. range-wide k x (quote-range k (latest q p k) x (ranged p) e) .0) n,
-         total-high (pos 800000000) (λ p x e. range-wide k x (quote-range k (latest q p k) x (ranged p) e) .1) n)
+    total-wide n = (
+      total-low (negsuc 1999999) (λ p x e. range-wide k x (quote-range k (latest q p k) x (ranged p) e) .0) n,
+      total-high (pos 800000000) (λ p x e. range-wide k x (quote-range k (latest q p k) x (ranged p) e) .1) n,
+    )
 
     pub mean-ranged : 0 < weight s q k 8 → InRange k (floorDiv (total s q k 8) (weight s q k 8))
     mean-ranged h =
-        let f = floor-of (total s q k 8) (weight s q k 8) h in
-        (floor-low (total s q k 8) (weight s q k 8) _ (lowest k) f (total-low (lowest k) (λ p x e. quote-range k (latest q p k) x (ranged p) e .0) 8),
-         floor-high (total s q k 8) (weight s q k 8) _ (highest k) h f (total-high (highest k) (λ p x e. quote-range k (latest q p k) x (ranged p) e .1) 8))
+        let f = floor-of (total s q k 8) (weight s q k 8) h in (
+          floor-low (total s q k 8) (weight s q k 8) _ (lowest k) f (total-low (lowest k) (λ p x e. quote-range k (latest q p k) x (ranged p) e .0) 8),
+          floor-high (total s q k 8) (weight s q k 8) _ (highest k) h f (total-high (highest k) (λ p x e. quote-range k (latest q p k) x (ranged p) e .1) 8),
+        )
 
     pub shown-ranged : (x : ℤ) → shown s q k ≡ Some x → InRange k x
     shown-ranged x = cond-both (eqb (weight s q k 8) 0) None (Some (floorDiv (total s q k 8) (weight s q k 8))) (λ o. o ≡ Some x → InRange k x)

@@ -30,10 +30,10 @@ module _ (s : List ℕ) (q r : List (List (Option ℤ))) (k : ℕ) (same : (p : 
 module _ (b a : Board) (p k : ℕ) (o : Option ℤ) (only : OnlyQuote b a p k o) where
   pub only-line : OnlyLine (boardPage b) (boardPage a) k
   only-line = record {
-      dated = only .dated;
-      tabled = ap (λ (d : DayTable). d .days) (only .tabled);
-      others = λ j ne. ap (λ s. shown s (a .quotes) j) (only .shared) ∙ shown-same (b .shares) (b .quotes) (a .quotes) j (λ i. only .others i j (λ _ e. ne e))
-    }
+    dated = only .dated;
+    tabled = ap (λ (d : DayTable). d .days) (only .tabled);
+    others = λ j ne. ap (λ s. shown s (a .quotes) j) (only .shared) ∙ shown-same (b .shares) (b .quotes) (a .quotes) j (λ i. only .others i j (λ _ e. ne e));
+  }
 
   -- a quote that counts makes its line present
   pub now-present : (x : ℤ) → o ≡ Some x → p < 8 → 0 < shareOf (b .shares) p → Present (boardPage a) k

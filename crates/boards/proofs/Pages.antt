@@ -31,9 +31,9 @@ weight-none s q k (suc n) f = let e = ap (counted (shareOf s n)) (f n) in omega 
 
 pub board-sound : (b : Board) → Sound (boardPage b)
 board-sound b = record {
-    dated = b .dated;
-    long = b .days .long;
-    lawful = lawful-from-bounded (b .days .days) (b .days .lawful);
-    ranged = λ k. shown-ranged (b .shares) (b .quotes) k (λ p. b .ranged p k);
-    past = λ k h. shown-none (b .shares) (b .quotes) k (weight-none (b .shares) (b .quotes) k 8 (λ p. latest-past b p k h))
-  }
+  dated = b .dated;
+  long = b .days .long;
+  lawful = lawful-from-bounded (b .days .days) (b .days .lawful);
+  ranged = λ k. shown-ranged (b .shares) (b .quotes) k (λ p. b .ranged p k);
+  past = λ k h. shown-none (b .shares) (b .quotes) k (weight-none (b .shares) (b .quotes) k 8 (λ p. latest-past b p k h));
+}

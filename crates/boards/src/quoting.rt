@@ -22,6 +22,7 @@ use days::table::DayTable;
 pub const PROVIDERS: usize = 8;
 
 const LAST_VALUATION_DAY: u32 = 100_000;
+
 const LARGEST_SHARE: u32 = 10_000;
 
 // Is there such a provider, and such a line?
@@ -60,7 +61,12 @@ impl Board {
                 return Err(SourceFault::ShareTooLarge { provider });
             }
         }
-        Ok(Board { valuation, days, shares, quotes: [[None; 29]; 8] })
+        Ok(Board {
+            valuation,
+            days,
+            shares,
+            quotes: [[None; 29]; 8],
+        })
     }
 
     // Makes a provider's quote for a line this one, or none.

@@ -26,7 +26,11 @@ impl Board {
         requires { ⌜ provider < 8 ⌝ }
         ensures { λ r. ⌜ r ≡ latest (now (self .entry) .quotes) provider line ⌝ }
     {
-        if line < LINES { self.quotes[provider][line] } else { None }
+        if line < LINES {
+            self.quotes[provider][line]
+        } else {
+            None
+        }
     }
 
     fn sums(&self, line: usize) -> Sums

@@ -33,18 +33,18 @@ at P k n e h = subst P e h
 
 pub ruled-from-bounded : (d : List ℕ) (k : ℕ) → Bounded d k → Ruled d k
 ruled-from-bounded d k b = record {
-    limit = omega (arith, b .1, most-600 d k);
-    spot = λ e. let c = at (Bounded d) k 0 e b in omega (arith, c .0, c .1);
-    tip = λ e. at (Bounded d) k 1 e b .0;
-    tpm = λ e. let c = at (Bounded d) k 2 e b in omega (arith, c .0);
-    first = ⊎-elim
+  limit = omega (arith, b .1, most-600 d k);
+  spot = λ e. let c = at (Bounded d) k 0 e b in omega (arith, c .0, c .1);
+  tip = λ e. at (Bounded d) k 1 e b .0;
+  tpm = λ e. let c = at (Bounded d) k 2 e b in omega (arith, c .0);
+  first = ⊎-elim
       (λ e. let c = at (Bounded d) k 3 e b in subst (λ n. day d 2 < day d n) (sym e) (omega (arith, c .0)))
       (λ e. let c = at (Bounded d) k 8 e b in subst (λ n. day d 2 < day d n) (sym e) (omega (arith, c .0)));
-    rising = λ h. omega (arith, b .0, least-follows d k h);
-    uf = λ e. let c = at (Bounded d) k 16 e b in omega (arith, c .1);
-    forwards = λ e. at (Bounded d) k 17 e b .0;
-    reach = λ h. omega (arith, b .1, most-reached d k h)
-  }
+  rising = λ h. omega (arith, b .0, least-follows d k h);
+  uf = λ e. let c = at (Bounded d) k 16 e b in omega (arith, c .1);
+  forwards = λ e. at (Bounded d) k 17 e b .0;
+  reach = λ h. omega (arith, b .1, most-reached d k h);
+}
 
 module _ (d : List ℕ) (k : ℕ) (line : k < 29) (r : Ruled d k) where
   follows : (k ≡ 0 → ⊥) → (k ≡ 1 → ⊥) → (k ≡ 2 → ⊥) → (k ≡ 3 → ⊥) → (k ≡ 8 → ⊥) → (k ≡ 16 → ⊥) → (k ≡ 17 → ⊥) → Follows k

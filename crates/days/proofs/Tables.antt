@@ -19,9 +19,10 @@ abbrev same : ℤ → ℤ → Bool
 same a b = leZ a b && leZ b a
 
 decides-same : (a b : ℤ) → Decides (same a b) (a ≡ b)
-decides-same a b =
-    (λ e. let p = and-parts (leZ a b) (leZ b a) e in let x = p .0 in let y = p .1 in omega (arith, ints),
-     λ e. grind (arith, ints))
+decides-same a b = (
+  λ e. let p = and-parts (leZ a b) (leZ b a) e in let x = p .0 in let y = p .1 in omega (arith, ints),
+  λ e. grind (arith, ints),
+)
 
 abbrev same-below : (ℕ → ℤ) → (ℕ → ℤ) → ℕ → Bool
 same-below f g zero = true

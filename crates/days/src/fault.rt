@@ -27,14 +27,19 @@ impl SourceFault {
         ensures answer { λ r. ⌜ r ≡ toldSource (now (self .entry)) ⌝ }
         ensures apart { λ r. ⌜ ((f : Fault) → toldSource f ≡ r → f ≡ now (self .entry)) ⌝ }
     {
+        let (number, place) = match *self {
+            SourceFault::UnlawfulDay { line } => (15, line),
+            SourceFault::NoProvider { provider } => (21, provider),
+            SourceFault::NoLine { line } => (22, line),
+            SourceFault::FigureOutOfRange { line } => (23, line),
+            SourceFault::ShareTooLarge { provider } => (24, provider),
+            SourceFault::ValuationDayTooLate => (25, 0),
+        };
         let layer = Layer::Source;
-        match *self {
-            SourceFault::UnlawfulDay { line } => Refusal { number: 15, layer, place: line },
-            SourceFault::NoProvider { provider } => Refusal { number: 21, layer, place: provider },
-            SourceFault::NoLine { line } => Refusal { number: 22, layer, place: line },
-            SourceFault::FigureOutOfRange { line } => Refusal { number: 23, layer, place: line },
-            SourceFault::ShareTooLarge { provider } => Refusal { number: 24, layer, place: provider },
-            SourceFault::ValuationDayTooLate => Refusal { number: 25, layer, place: 0 },
+        Refusal {
+            number,
+            layer,
+            place,
         }
     }
 }

@@ -17,7 +17,7 @@ abbrev pub pointsWithHole : Page
 pointsWithHole = record {
   valuation = 0;
   days = blank-days;
-  figure = λ k. cond (eqb k 9) (Some (negsuc 0)) (cond (eqb k 11) (Some (negsuc 1)) None)
+  figure = λ k. cond (eqb k 9) (Some (negsuc 0)) (cond (eqb k 11) (Some (negsuc 1)) None);
 }
 
 -- two providers' quotes for the spot

@@ -57,7 +57,10 @@ fn the_latest_quote_rules() -> Result<(), Fail> {
 fn calls_are_refused_in_order() -> Result<(), Fail> {
     let mut b = board([0; 8])?;
     check_eq(told(b.quote(8, 29, 0)), (21, 8)).note("the provider is asked first")?;
-    check_eq(told(b.quote(4_000_000_000, 0, 9_000_000)), (21, 4_000_000_000))?;
+    check_eq(
+        told(b.quote(4_000_000_000, 0, 9_000_000)),
+        (21, 4_000_000_000),
+    )?;
     check_eq(told(b.quote(7, 29, 0)), (22, 29)).note("then the line")?;
     check_eq(told(b.quote(7, 0, 3_999_999)), (23, 0)).note("then the figure")?;
     check_eq(told(b.quote(7, 15, 2_000_001)), (23, 15))?;
@@ -76,8 +79,19 @@ fn calls_are_refused_in_order() -> Result<(), Fail> {
 fn a_board_is_made_of_lawful_parts() -> Result<(), Fail> {
     let blank = DayTable::blank();
     check_eq(told(Board::new(100_000, blank, [10_000; 8])), (0, 0))?;
-    check_eq(told(Board::new(100_001, blank, [10_001; 8])), (25, 0)).note("the valuation day is asked first")?;
-    check_eq(told(Board::new(0, blank, [10_001, 0, 0, 0, 0, 0, 0, 10_001])), (24, 0))?;
-    check_eq(told(Board::new(0, blank, [0, 0, 0, 4_000_000_000, 10_001, 0, 0, 0])), (24, 3))?;
-    check_eq(told(Board::new(0, blank, [0, 0, 0, 0, 0, 0, 0, 10_001])), (24, 7))
+    check_eq(told(Board::new(100_001, blank, [10_001; 8])), (25, 0)).note(
+        "the valuation day is asked first",
+    )?;
+    check_eq(
+        told(Board::new(0, blank, [10_001, 0, 0, 0, 0, 0, 0, 10_001])),
+        (24, 0),
+    )?;
+    check_eq(
+        told(Board::new(0, blank, [0, 0, 0, 4_000_000_000, 10_001, 0, 0, 0])),
+        (24, 3),
+    )?;
+    check_eq(
+        told(Board::new(0, blank, [0, 0, 0, 0, 0, 0, 0, 10_001])),
+        (24, 7),
+    )
 }

@@ -1,9 +1,8 @@
 // Worked figures of the rules, and tests over piles of sources.
-pub mod worked;
-
 #[cfg(test)]
 mod boards_tests;
 #[cfg(test)]
 mod days_tests;
 #[cfg(test)]
 mod piles_tests;
+pub mod worked;

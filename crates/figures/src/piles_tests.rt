@@ -40,7 +40,10 @@ fn check_points<S: QuoteSource>(s: &S, expected: [i32; 8]) -> Result<(), Fail> {
 
 #[test]
 fn gap_draws_straight_lines() -> Result<(), Fail> {
-    let today = points(5, [NOTHING, -1, NOTHING, -2, NOTHING, NOTHING, NOTHING, 100])?;
+    let today = points(
+        5,
+        [NOTHING, -1, NOTHING, -2, NOTHING, NOTHING, NOTHING, 100],
+    )?;
     let gap = Gap::over(&today);
     check_points(&gap, [NOTHING, -1, -2, -2, 18, 38, 59, 100])?;
     check_eq(gap.figure(16), None)?;
@@ -51,27 +54,59 @@ fn gap_draws_straight_lines() -> Result<(), Fail> {
 
 #[test]
 fn gap_keeps_groups_apart() -> Result<(), Fail> {
-    let mut today = points(5, [NOTHING, NOTHING, NOTHING, NOTHING, NOTHING, NOTHING, NOTHING, 100])?;
+    let mut today = points(
+        5,
+        [
+            NOTHING,
+            NOTHING,
+            NOTHING,
+            NOTHING,
+            NOTHING,
+            NOTHING,
+            NOTHING,
+            100,
+        ],
+    )?;
     check(today.quote(0, 0, 9_000_000).is_ok())?;
     check(today.quote(0, 3, 45_000).is_ok())?;
     check(today.quote(0, 5, 47_000).is_ok())?;
     check(today.quote(0, 18, 380_000_003).is_ok())?;
     let bare = Gap::over(&today);
-    check_points(&bare, [NOTHING, NOTHING, NOTHING, NOTHING, NOTHING, NOTHING, NOTHING, 100])?;
+    check_points(
+        &bare,
+        [
+            NOTHING,
+            NOTHING,
+            NOTHING,
+            NOTHING,
+            NOTHING,
+            NOTHING,
+            NOTHING,
+            100,
+        ],
+    )?;
     check_eq(bare.figure(4), None).note("rates are never filled")?;
     check_eq(bare.figure(16), None).note("line 15 is no neighbour of line 16")?;
     check_eq(bare.figure(17), None)?;
     check(today.quote(0, 16, 380_000_000).is_ok())?;
-    check_eq(Gap::over(&today).figure(17), Some(380_000_001)).note("the UF of the day is a neighbour, at day 0")
+    check_eq(Gap::over(&today).figure(17), Some(380_000_001)).note(
+        "the UF of the day is a neighbour, at day 0",
+    )
 }
 
 #[test]
 fn reserve_takes_all_points_or_none() -> Result<(), Fail> {
     let yesterday = points(4, [1, NOTHING, 3, NOTHING, 5, NOTHING, 7, NOTHING])?;
     let two = points(5, [10, NOTHING, NOTHING, 40, NOTHING, NOTHING, 70, 80])?;
-    check_points(&Reserve::of(&two, &yesterday), [10, NOTHING, NOTHING, 40, NOTHING, NOTHING, 70, 80])?;
+    check_points(
+        &Reserve::of(&two, &yesterday),
+        [10, NOTHING, NOTHING, 40, NOTHING, NOTHING, 70, 80],
+    )?;
     let first = points(5, [NOTHING, NOTHING, NOTHING, 40, 50, 60, 70, 80])?;
-    check_points(&Reserve::of(&first, &yesterday), [1, NOTHING, 3, NOTHING, 5, NOTHING, 7, NOTHING])?;
+    check_points(
+        &Reserve::of(&first, &yesterday),
+        [1, NOTHING, 3, NOTHING, 5, NOTHING, 7, NOTHING],
+    )?;
     let last = points(5, [10, 20, 30, 40, 50, NOTHING, NOTHING, NOTHING])?;
     let reserve = Reserve::of(&last, &yesterday);
     check_points(&reserve, [1, NOTHING, 3, NOTHING, 5, NOTHING, 7, NOTHING])?;

@@ -46,5 +46,4 @@ pub fn hole_filled() -> Option<i32>
 // The rules give these figures.
 pub fn figures_met()
     ensures { λ _. ⌜ Figures ⌝ }
-{
-}
+{}

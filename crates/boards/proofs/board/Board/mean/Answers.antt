@@ -12,5 +12,5 @@ returns c =
     record {
       answer = e;
       shows = subst (Shows s q k) (sym e) (shows s q k);
-      one = λ o h. shows-one s q k o h ∙ sym e
+      one = λ o h. shows-one s q k o h ∙ sym e;
     }

@@ -11,9 +11,16 @@ ghost-self c =
     let b = c .args .self .now in
     let p = c .args .provider in
     let k = c .args .line in
-    let o = c .args .quote in
-    (b .dated, (b .shared, (length-set (b .quotes) p (set (getD (b .quotes) p []) k o) ∙ b .rows,
-     (put-lines (b .quotes) p k o (b .lines) (c .pre .0), (put-fits (b .quotes) p k o (c .pre .1 .1) (b .ranged), tt)))))
+    let o = c .args .quote in (
+      b .dated,
+      (
+        b .shared,
+        (
+          length-set (b .quotes) p (set (getD (b .quotes) p []) k o) ∙ b .rows,
+          (put-lines (b .quotes) p k o (b .lines) (c .pre .0), (put-fits (b .quotes) p k o (c .pre .1 .1) (b .ranged), tt)),
+        ),
+      ),
+    )
 
 pub returns : need.returns
 returns c =

@@ -37,20 +37,20 @@ loop-provider-again c =
     let k = c .args .line in
     let p = c .loop-provider .provider in
     elim (c .match-latest .came) [
-      in-Some w ↦
-        let f : SFits w32 (w .in-Some .figure) = search needs in
-        let t : w .weigh-total .result ≡ pos (shareOf (b .shares) p) *ℤ w .in-Some .figure = simp toZ-ofZ at (w .weigh-total .ensures) in
-        let is = sym (c .latest .ensures) ∙ w .in-Some .is in
-        let m = weight-more (b .shares) (b .quotes) k p (Some (w .in-Some .figure)) is in
-        let e = total-more (b .shares) (b .quotes) k p (Some (w .in-Some .figure)) is in
-        let wide = total-wide (b .shares) (b .quotes) k (λ i. b .ranged i k) (p + 1) in
-        let l = weight-le (b .shares) (b .quotes) k (b .shared) (p + 1) in
-        (omega (arith, w .weight-is, c .loop-provider .inv .0), omega (arith, ints, w .total-is))
-    | in-rest w ↦
-        let is = sym (c .latest .ensures) ∙ w .in-rest .is in
-        let m = weight-more (b .shares) (b .quotes) k p None is in
-        let e = total-more (b .shares) (b .quotes) k p None is in
-        (omega (arith, w .weight-is, c .loop-provider .inv .0), omega (arith, ints, w .total-is))
+      | in-Some w ↦
+          let f : SFits w32 (w .in-Some .figure) = search needs in
+          let t : w .weigh-total .result ≡ pos (shareOf (b .shares) p) *ℤ w .in-Some .figure = simp toZ-ofZ at (w .weigh-total .ensures) in
+          let is = sym (c .latest .ensures) ∙ w .in-Some .is in
+          let m = weight-more (b .shares) (b .quotes) k p (Some (w .in-Some .figure)) is in
+          let e = total-more (b .shares) (b .quotes) k p (Some (w .in-Some .figure)) is in
+          let wide = total-wide (b .shares) (b .quotes) k (λ i. b .ranged i k) (p + 1) in
+          let l = weight-le (b .shares) (b .quotes) k (b .shared) (p + 1) in
+          (omega (arith, w .weight-is, c .loop-provider .inv .0), omega (arith, ints, w .total-is))
+      | in-rest w ↦
+          let is = sym (c .latest .ensures) ∙ w .in-rest .is in
+          let m = weight-more (b .shares) (b .quotes) k p None is in
+          let e = total-more (b .shares) (b .quotes) k p None is in
+          (omega (arith, w .weight-is, c .loop-provider .inv .0), omega (arith, ints, w .total-is))
     ]
 
 pub returns : need.returns
@@ -59,5 +59,5 @@ returns c =
     let e : c .loop-provider .provider ≡ 8 = omega arith in
     record {
       weights = c .loop-provider .inv .0 ∙ ap (weight (b .shares) (b .quotes) (c .args .line)) e;
-      totals = c .loop-provider .inv .1 ∙ ap (total (b .shares) (b .quotes) (c .args .line)) e
+      totals = c .loop-provider .inv .1 ∙ ap (total (b .shares) (b .quotes) (c .args .line)) e;
     }

@@ -21,5 +21,5 @@ returns c =
     record {
       answer = c .in-Continue-ask-place .ensures tt;
       board = c .put .ensures;
-      page = only-line (c .args .self .now) (c .put .last .self) (c .args .provider) (c .args .line) None (c .put .ensures)
+      page = only-line (c .args .self .now) (c .put .last .self) (c .args .provider) (c .args .line) None (c .put .ensures);
     }
