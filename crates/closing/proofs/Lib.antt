@@ -1,0 +1,5 @@
+mod Called
+mod Cut
+mod Digits
+mod Shown
+mod Spelled

@@ -1,0 +1,46 @@
+-- What a call leaves of the market, and which boards a source is made of. Assumes nothing.
+use mathlib.Core.Path.{_≡_}
+use mathlib.Core.Bool.{Bool, cond, _&&_}
+use Rattle.boards.specs.declared.board.Board.{Board}
+use Rattle.days.specs.declared.fault.SourceFault.{SourceFault}
+use Rattle.days.specs.declared.table.DayTable.{DayTable}
+use Rattle.std.specs.Options.{isSome}
+use Rattle.std.specs.declared.option.Option.{Option}
+use Rattle.std.specs.declared.option.Option.the-variants.{Some}
+use Rattle.std.specs.declared.result.Result.{Result}
+use Rattle.std.specs.declared.result.Result.the-variants.{Ok, Err}
+use Rattle.closing.specs.declared.command.Base.{Base}
+use Rattle.closing.specs.declared.command.Base.the-variants.{Today as OfToday, ReserveTodayYesterday}
+use Rattle.closing.specs.declared.command.Pile.{Pile}
+use Rattle.closing.specs.declared.command.Which.{Which}
+use Rattle.closing.specs.declared.command.Which.the-variants.{Today, Yesterday}
+use Rattle.closing.specs.declared.market.Market.{Market}
+
+-- the board of a name, if it was made
+abbrev pub boardOf : Which → Market → Option Board
+boardOf Today d = d .today
+boardOf Yesterday d = d .yesterday
+
+-- every board that a source is made of was made
+abbrev pub standsOn : Base → Market → Bool
+standsOn OfToday d = isSome (d .today)
+standsOn ReserveTodayYesterday d = isSome (d .today) && isSome (d .yesterday)
+
+abbrev pub chosen : Pile → Market → Market
+chosen p d = record { days = d .days; today = d .today; yesterday = d .yesterday; pile = Some p }
+
+-- a refused table changes nothing
+abbrev pub withDays : Result DayTable SourceFault → Market → Market
+withDays (Ok t) d = record { days = t; today = d .today; yesterday = d .yesterday; pile = d .pile }
+withDays (Err e) d = d
+
+-- a refused board changes nothing
+abbrev pub withBoard : Which → Result Board SourceFault → Market → Market
+withBoard Today (Ok b) d = record { days = d .days; today = Some b; yesterday = d .yesterday; pile = d .pile }
+withBoard Yesterday (Ok b) d = record { days = d .days; today = d .today; yesterday = Some b; pile = d .pile }
+withBoard w (Err e) d = d
+
+-- all but the board of a name is as it was
+abbrev pub Beside : Which → Market → Market → Type 0
+Beside Today d e = (e .days ≡ d .days) × (e .yesterday ≡ d .yesterday) × (e .pile ≡ d .pile)
+Beside Yesterday d e = (e .days ≡ d .days) × (e .today ≡ d .today) × (e .pile ≡ d .pile)
