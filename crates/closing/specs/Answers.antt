@@ -20,10 +20,13 @@ abbrev pub answerTo : Option Refusal → Answer
 answerTo None = Done
 answerTo (Some r) = Refused r
 
--- a call on a board that was not made is no command
+-- the answer of what needs a board; without it there is no command
+abbrev pub onBoard : Which → Option Board → Result Answer Complaint → Result Answer Complaint
+onBoard w None r = Err (BoardNotMade w)
+onBoard w (Some b) r = r
+
 abbrev pub answerOn : Which → Option Board → Option Refusal → Result Answer Complaint
-answerOn w None refusal = Err (BoardNotMade w)
-answerOn w (Some b) refusal = Ok (answerTo refusal)
+answerOn w board refusal = onBoard w board (Ok (answerTo refusal))
 
 -- the board after a call that makes provider p's quote for line k this one, unless it is refused
 abbrev pub Called : Option Refusal → Option Board → Option Board → ℕ → ℕ → Option ℤ → Type 0

@@ -4,3 +4,4 @@ pub mod Markets
 pub mod Pages
 pub mod Speech
 pub mod Spelling
+pub mod Carried

@@ -1,14 +1,16 @@
 -- What a call leaves of the market, and which boards a source is made of. Assumes nothing.
 use mathlib.Core.Path.{_≡_}
-use mathlib.Core.Bool.{Bool, cond, _&&_}
 use Rattle.boards.specs.declared.board.Board.{Board}
 use Rattle.days.specs.declared.fault.SourceFault.{SourceFault}
 use Rattle.days.specs.declared.table.DayTable.{DayTable}
-use Rattle.std.specs.Options.{isSome}
 use Rattle.std.specs.declared.option.Option.{Option}
 use Rattle.std.specs.declared.option.Option.the-variants.{Some}
 use Rattle.std.specs.declared.result.Result.{Result}
 use Rattle.std.specs.declared.result.Result.the-variants.{Ok, Err}
+use Rattle.closing.specs.Answers.{onBoard}
+use Rattle.closing.specs.declared.answer.Answer.{Answer}
+use Rattle.closing.specs.declared.answer.Answer.the-variants.{Done}
+use Rattle.closing.specs.declared.complaint.Complaint.{Complaint}
 use Rattle.closing.specs.declared.command.Base.{Base}
 use Rattle.closing.specs.declared.command.Base.the-variants.{Today as OfToday, ReserveTodayYesterday}
 use Rattle.closing.specs.declared.command.Pile.{Pile}
@@ -21,10 +23,10 @@ abbrev pub boardOf : Which → Market → Option Board
 boardOf Today d = d .today
 boardOf Yesterday d = d .yesterday
 
--- every board that a source is made of was made
-abbrev pub standsOn : Base → Market → Bool
-standsOn OfToday d = isSome (d .today)
-standsOn ReserveTodayYesterday d = isSome (d .today) && isSome (d .yesterday)
+-- choosing a source needs the boards that it is made of, today's first
+abbrev pub choosing : Base → Market → Result Answer Complaint
+choosing OfToday m = onBoard Today (m .today) (Ok Done)
+choosing ReserveTodayYesterday m = onBoard Today (m .today) (onBoard Yesterday (m .yesterday) (Ok Done))
 
 abbrev pub chosen : Pile → Market → Market
 chosen p d = record { days = d .days; today = d .today; yesterday = d .yesterday; pile = Some p }

@@ -11,11 +11,17 @@ use Rattle.layers.specs.Lent.{reservePage}
 use Rattle.sources.specs.Page.{Page as Meant}
 use Rattle.std.specs.declared.option.Option.{Option}
 use Rattle.std.specs.declared.option.Option.the-variants.{Some, None}
+use Rattle.std.specs.declared.result.Result.{Result}
+use Rattle.std.specs.declared.result.Result.the-variants.{Ok, Err}
 use Rattle.closing.specs.declared.answer.Answer.{Answer}
 use Rattle.closing.specs.declared.answer.Answer.the-variants.{Done, Refused, Page as Shows}
 use Rattle.closing.specs.declared.command.Base.{Base}
 use Rattle.closing.specs.declared.command.Base.the-variants.{Today, ReserveTodayYesterday}
+use Rattle.closing.specs.Markets.{choosing}
 use Rattle.closing.specs.declared.command.Pile.{Pile}
+use Rattle.closing.specs.declared.complaint.Complaint.{Complaint}
+use Rattle.closing.specs.declared.complaint.Complaint.the-variants.{NoSourceChosen}
+use Rattle.closing.specs.declared.market.Market.{Market}
 use Rattle.closing.specs.declared.page.Page.{Page}
 use Rattle.closing.specs.declared.page.Row.{Row}
 
@@ -51,3 +57,9 @@ PageOf None t y a = ⊥
 PageOf (Some p) t y (Shows r) = RowsIf (p .filled) (basePage (p .base) t y) r
 PageOf (Some p) t y Done = ⊥
 PageOf (Some p) t y (Refused r) = ⊥
+
+-- the answer is the page of the chosen source; without one, or without a board that it is made of, there is no command
+abbrev pub Paged : Option Pile → Market → Result Answer Complaint → Type 0
+Paged None m r = r ≡ Err NoSourceChosen
+Paged (Some p) m (Ok a) = PageOf (Some p) (m .today) (m .yesterday) a
+Paged (Some p) m (Err c) = choosing (p .base) m ≡ Err c

@@ -2,14 +2,16 @@
 ghost use mathlib.Core.Path.{_≡_};
 ghost use mathlib.Core.Bool.{cond};
 ghost use Rattle.std.specs.Results.{isOk, Cases};
-ghost use Rattle.std.specs.Vec.{made};
 ghost use Rattle.std.specs.declared.option.Option.the-variants.{Some, None};
 ghost use Rattle.days.specs.Questions.{refusalOf, firstFailing};
 ghost use Rattle.days.specs.Told.{toldSource};
 ghost use Rattle.boards.specs.Quoting.{quoting, unquoting};
+ghost use Rattle.std.specs.declared.result.Result.the-variants.{Err};
 ghost use Rattle.closing.specs.Answers.{answerTo, answerOn, Called};
-ghost use Rattle.closing.specs.Pages.{basePage, RowsIf, PageOf};
-ghost use Rattle.closing.specs.Markets.{boardOf, standsOn, chosen, withDays, withBoard, Beside};
+ghost use Rattle.closing.specs.Carried.{Carried};
+ghost use Rattle.closing.specs.declared.complaint.Complaint.the-variants.{BoardNotMade};
+ghost use Rattle.closing.specs.Pages.{basePage, RowsIf, Paged};
+ghost use Rattle.closing.specs.Markets.{boardOf, choosing, chosen, withDays, withBoard, Beside};
 use crate::answer::Answer;
 use crate::command::Base;
 use crate::command::Command;
@@ -48,7 +50,9 @@ impl Market {
     }
 
     // Carries a command out; one that needs a board or a source that is not there is no command.
-    pub(crate) fn carry_out(&mut self, command: &Command) -> Result<Answer, Complaint> {
+    pub(crate) fn carry_out(&mut self, command: &Command) -> Result<Answer, Complaint>
+        ensures { λ r. ⌜ Carried (now (command .entry)) (now (self .entry)) (now (self .exit)) r ⌝ }
+    {
         match *command {
             Command::BlankDays => Ok(self.set_days(Ok(DayTable::blank()))),
             Command::Days { days } => Ok(self.set_days(DayTable::new(days))),
@@ -130,7 +134,7 @@ impl Market {
     }
 
     fn choose(&mut self, pile: Pile) -> Result<Answer, Complaint>
-        ensures answer { λ r. ⌜ isOk r ≡ standsOn (pile .base) (now (self .entry)) ⌝ }
+        ensures answer { λ r. ⌜ r ≡ choosing (pile .base) (now (self .entry)) ⌝ }
         ensures after { λ r. ⌜ now (self .exit) ≡ cond (isOk r) (chosen pile (now (self .entry))) (now (self .entry)) ⌝ }
     {
         self.board(Which::Today)?;
@@ -142,7 +146,7 @@ impl Market {
     }
 
     fn page(&self) -> Result<Answer, Complaint>
-        ensures { λ r. ⌜ made r (PageOf (now (self .entry) .pile) (now (self .entry) .today) (now (self .entry) .yesterday)) ⌝ }
+        ensures { λ r. ⌜ Paged (now (self .entry) .pile) (now (self .entry)) r ⌝ }
     {
         match self.pile {
             Some(pile) => Ok(Answer::Page(self.shown(pile)?)),
@@ -152,7 +156,7 @@ impl Market {
 
     // The page of a source that is made so.
     fn shown(&self, pile: Pile) -> Result<Page, Complaint>
-        ensures { λ r. ⌜ Cases r (RowsIf (pile .filled) (basePage (pile .base) (now (self .entry) .today) (now (self .entry) .yesterday))) (λ _. basePage (pile .base) (now (self .entry) .today) (now (self .entry) .yesterday) ≡ None) ⌝ }
+        ensures { λ r. ⌜ Cases r (RowsIf (pile .filled) (basePage (pile .base) (now (self .entry) .today) (now (self .entry) .yesterday))) (λ c. choosing (pile .base) (now (self .entry)) ≡ Err c) ⌝ }
     {
         let today = self.board(Which::Today)?;
         match pile.base {
@@ -165,7 +169,7 @@ impl Market {
     }
 
     fn board(&self, which: Which) -> Result<&Board, Complaint>
-        ensures { λ r. ⌜ Cases r (λ b. boardOf which (now (self .entry)) ≡ Some (now b)) (λ _. boardOf which (now (self .entry)) ≡ None) ⌝ }
+        ensures { λ r. ⌜ Cases r (λ b. boardOf which (now (self .entry)) ≡ Some (now b)) (λ c. (boardOf which (now (self .entry)) ≡ None) × (c ≡ BoardNotMade which)) ⌝ }
     {
         let board = match which {
             Which::Today => &self.today,
