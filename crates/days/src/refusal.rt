@@ -1,6 +1,7 @@
 // What a refused call tells: a number, the layer that refuses, and a place.
 ghost use mathlib.Core.Path.{_≡_};
 ghost use Rattle.days.specs.Layers.{nameOf};
+ghost use Rattle.days.specs.Questions.{Told-in-order};
 
 #[derive(Clone, Copy)]
 pub enum Layer {
@@ -32,3 +33,8 @@ impl Layer {
         }
     }
 }
+
+// What a list of questions tells is what the first of them to fail tells.
+pub fn told_in_order()
+    ensures { λ _. ⌜ Told-in-order ⌝ }
+{}
