@@ -15,8 +15,8 @@ use Rattle.std.specs.declared.result.Result.{Result}
 use Rattle.std.specs.declared.result.Result.the-variants.{Ok, Err}
 use Rattle.closing.specs.Answers.{answerTo, answerOn, Called as Left}
 use Rattle.closing.specs.declared.answer.Answer.{Answer}
-use Rattle.closing.specs.declared.command.Which.{Which}
-use Rattle.closing.specs.declared.complaint.Complaint.{Complaint}
+use Rattle.journal.specs.declared.command.Which.{Which}
+use Rattle.journal.specs.declared.complaint.Complaint.{Complaint}
 
 pub answers : {U : Type 0} (w : Which) (before : Option Board) (b : Board) (r : Result U SourceFault) (refusal : Option Refusal) (t : Answer) → before ≡ Some b → t ≡ answerTo (refusalOf toldSource r) → refusalOf toldSource r ≡ refusal → _≡_ {A = Result Answer Complaint} (Ok t) (answerOn w before refusal)
 answers w before b r refusal t is told asked =

@@ -1,5 +1,2 @@
 mod Called
-mod Cut
-mod Digits
 mod Shown
-mod Spelled

@@ -9,8 +9,8 @@ use Rattle.sources.specs.Page.{Page as Meant}
 use Rattle.std.specs.declared.option.Option.{Option}
 use Rattle.std.specs.declared.option.Option.the-variants.{Some}
 use Rattle.closing.specs.Pages.{RowsOf, RowsIf, basePage, filledPage}
-use Rattle.closing.specs.declared.command.Base.{Base}
-use Rattle.closing.specs.declared.command.Base.the-variants.{ReserveTodayYesterday}
+use Rattle.journal.specs.declared.command.Base.{Base}
+use Rattle.journal.specs.declared.command.Base.the-variants.{ReserveTodayYesterday}
 use Rattle.closing.specs.declared.page.Page.{Page}
 
 -- a board that is lent on is the one that was found

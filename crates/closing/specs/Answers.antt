@@ -11,9 +11,9 @@ use Rattle.std.specs.declared.result.Result.{Result}
 use Rattle.std.specs.declared.result.Result.the-variants.{Ok, Err}
 use Rattle.closing.specs.declared.answer.Answer.{Answer}
 use Rattle.closing.specs.declared.answer.Answer.the-variants.{Done, Refused}
-use Rattle.closing.specs.declared.command.Which.{Which}
-use Rattle.closing.specs.declared.complaint.Complaint.{Complaint}
-use Rattle.closing.specs.declared.complaint.Complaint.the-variants.{BoardNotMade}
+use Rattle.journal.specs.declared.command.Which.{Which}
+use Rattle.journal.specs.declared.complaint.Complaint.{Complaint}
+use Rattle.journal.specs.declared.complaint.Complaint.the-variants.{BoardNotMade}
 
 -- the answer to a call that the library accepts, or refuses so
 abbrev pub answerTo : Option Refusal → Answer

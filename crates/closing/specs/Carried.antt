@@ -1,17 +1,15 @@
 -- What carrying a command out gives, and what it leaves of the market. Assumes nothing.
 use mathlib.Core.Path.{_≡_}
 use mathlib.Core.Bool.{cond}
-use mathlib.Core.List.{List}
-use Prim.Native.Nat.{ℕ}
 use Rattle.std.specs.Results.{isOk, Cases}
 use Rattle.std.specs.declared.option.Option.the-variants.{Some, None}
 use Rattle.std.specs.declared.result.Result.{Result}
-use Rattle.std.specs.declared.result.Result.the-variants.{Ok, Err}
-use Rattle.days.specs.Days.{Lawful, Breach, blank-days}
-use Rattle.days.specs.Questions.{refusal, refusalOf, firstFailing}
+use Rattle.std.specs.declared.result.Result.the-variants.{Ok}
+use Rattle.days.specs.Days.{blank-days}
+use Rattle.days.specs.Tabled.{Tabled}
+use Rattle.days.specs.Questions.{refusalOf, firstFailing}
 use Rattle.days.specs.Told.{toldSource}
 use Rattle.days.specs.declared.fault.SourceFault.{SourceFault}
-use Rattle.days.specs.declared.refusal.Layer.the-variants.{Source}
 use Rattle.days.specs.declared.table.DayTable.{DayTable}
 use Rattle.boards.specs.Board.{Fresh}
 use Rattle.boards.specs.Quoting.{quoting, unquoting, Refused}
@@ -20,14 +18,10 @@ use Rattle.closing.specs.Answers.{answerTo, answerOn, Called}
 use Rattle.closing.specs.Pages.{Paged}
 use Rattle.closing.specs.Markets.{boardOf, choosing, chosen, withDays, withBoard, Beside}
 use Rattle.closing.specs.declared.answer.Answer.{Answer}
-use Rattle.closing.specs.declared.command.Command.{Command}
-use Rattle.closing.specs.declared.command.Command.the-variants.{BlankDays, Days, Make, Quote, Unquote, Source as Choose, Page}
-use Rattle.closing.specs.declared.complaint.Complaint.{Complaint}
+use Rattle.journal.specs.declared.command.Command.{Command}
+use Rattle.journal.specs.declared.command.Command.the-variants.{BlankDays, Days, Make, Quote, Unquote, Source as Choose, Page}
+use Rattle.journal.specs.declared.complaint.Complaint.{Complaint}
 use Rattle.closing.specs.declared.market.Market.{Market}
-
--- what making a table of these days gives
-abbrev pub Tabled : List ℕ → Result DayTable SourceFault → Type 0
-Tabled d m = Cases m (λ t. (t .days ≡ d) × Lawful d) (λ f. (k : ℕ) × (toldSource f ≡ refusal 15 Source k) × Breach d k)
 
 -- market m becomes n, and r is the answer
 abbrev pub Carried : Command → Market → Market → Result Answer Complaint → Type 0

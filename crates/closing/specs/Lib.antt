@@ -1,7 +1,4 @@
 pub mod Answers
-pub mod Decimal
+pub mod Carried
 pub mod Markets
 pub mod Pages
-pub mod Speech
-pub mod Spelling
-pub mod Carried

@@ -15,12 +15,12 @@ use Rattle.std.specs.declared.result.Result.{Result}
 use Rattle.std.specs.declared.result.Result.the-variants.{Ok, Err}
 use Rattle.closing.specs.declared.answer.Answer.{Answer}
 use Rattle.closing.specs.declared.answer.Answer.the-variants.{Done, Refused, Page as Shows}
-use Rattle.closing.specs.declared.command.Base.{Base}
-use Rattle.closing.specs.declared.command.Base.the-variants.{Today, ReserveTodayYesterday}
+use Rattle.journal.specs.declared.command.Base.{Base}
+use Rattle.journal.specs.declared.command.Base.the-variants.{Today, ReserveTodayYesterday}
 use Rattle.closing.specs.Markets.{choosing}
-use Rattle.closing.specs.declared.command.Pile.{Pile}
-use Rattle.closing.specs.declared.complaint.Complaint.{Complaint}
-use Rattle.closing.specs.declared.complaint.Complaint.the-variants.{NoSourceChosen}
+use Rattle.journal.specs.declared.command.Pile.{Pile}
+use Rattle.journal.specs.declared.complaint.Complaint.{Complaint}
+use Rattle.journal.specs.declared.complaint.Complaint.the-variants.{NoSourceChosen}
 use Rattle.closing.specs.declared.market.Market.{Market}
 use Rattle.closing.specs.declared.page.Page.{Page}
 use Rattle.closing.specs.declared.page.Row.{Row}

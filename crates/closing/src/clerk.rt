@@ -1,12 +1,12 @@
 // Carries journals out line by line, and writes what each line gave.
 use crate::answer::Answer;
 use crate::answer::AnswerDisplay;
-use crate::complaint::Complaint;
 use crate::market::Market;
-use crate::parsing::parse;
 use crate::reading::Reading;
 use crate::stop::Input;
 use crate::stop::Stop;
+use journal::complaint::Complaint;
+use journal::parsing::parse;
 use std::alloc::Global;
 use std::io;
 use std::io::BufRead;

@@ -1,17 +1,11 @@
 // The command `closing`: reads a journal of calls, carries each out, and prints what each gave.
 mod answer;
 mod clerk;
-mod command;
-mod complaint;
 mod help;
-mod keyword;
 mod market;
-mod number;
 mod page;
-mod parsing;
 mod reading;
 mod stop;
-mod words;
 
 use clerk::Clerk;
 use clerk::written;

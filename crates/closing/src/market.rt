@@ -3,26 +3,27 @@ ghost use mathlib.Core.Path.{_≡_};
 ghost use mathlib.Core.Bool.{cond};
 ghost use Rattle.std.specs.Results.{isOk, Cases};
 ghost use Rattle.std.specs.declared.option.Option.the-variants.{Some, None};
+ghost use Rattle.days.specs.Days.{blank-days};
 ghost use Rattle.days.specs.Questions.{refusalOf, firstFailing};
 ghost use Rattle.days.specs.Told.{toldSource};
 ghost use Rattle.boards.specs.Quoting.{quoting, unquoting};
 ghost use Rattle.std.specs.declared.result.Result.the-variants.{Err};
 ghost use Rattle.closing.specs.Answers.{answerTo, answerOn, Called};
 ghost use Rattle.closing.specs.Carried.{Carried};
-ghost use Rattle.closing.specs.declared.complaint.Complaint.the-variants.{BoardNotMade};
+ghost use Rattle.journal.specs.declared.complaint.Complaint.the-variants.{BoardNotMade};
 ghost use Rattle.closing.specs.Pages.{basePage, RowsIf, Paged};
 ghost use Rattle.closing.specs.Markets.{boardOf, choosing, chosen, withDays, withBoard, Beside};
 use crate::answer::Answer;
-use crate::command::Base;
-use crate::command::Command;
-use crate::command::Pile;
-use crate::command::Which;
-use crate::complaint::Complaint;
 use crate::page::Page;
 use boards::board::Board;
 use boards::reading::BoardSource;
 use days::fault::SourceFault;
 use days::table::DayTable;
+use journal::command::Base;
+use journal::command::Command;
+use journal::command::Pile;
+use journal::command::Which;
+use journal::complaint::Complaint;
 use layers::reserve::Reserve;
 use layers::reserve::ReserveSource;
 use sources::lent::LentSource;
@@ -39,7 +40,7 @@ pub(crate) struct Market {
 
 impl Market {
     pub(crate) fn new() -> Market
-        ensures { λ r. ⌜ r .today ≡ None ⌝ ∗ ⌜ r .yesterday ≡ None ⌝ ∗ ⌜ r .pile ≡ None ⌝ }
+        ensures { λ r. ⌜ (r .days .days ≡ blank-days) × (r .today ≡ None) × (r .yesterday ≡ None) × (r .pile ≡ None) ⌝ }
     {
         Market {
             days: DayTable::blank(),

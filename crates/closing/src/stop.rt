@@ -1,6 +1,6 @@
 // Why a run ends before its time.
-use crate::complaint::Complaint;
-use crate::complaint::ComplaintDisplay;
+use journal::complaint::Complaint;
+use journal::complaint::ComplaintDisplay;
 use std::fmt;
 use std::io;
 

@@ -1,16 +1,16 @@
 -- A line's bounds are the sentences of the lawful-day rule about it. Assumes nothing.
 use mathlib.Core.Path.{_≡_, refl, sym, ap, _∙_, subst}
 use mathlib.Core.Logic.{_⊎_, inl, inr, ⊎-elim}
-use mathlib.Core.Bool.{true, cond}
+use mathlib.Core.Bool.{Bool, true, cond, _&&_}
 use mathlib.Core.List.{List}
-use Prim.Native.Nat.{ℕ, _+_, _-_, _<_, _≤_, min}
+use Prim.Native.Nat.{ℕ, zero, suc, _+_, _-_, _<_, _≤_, min}
 use native.Mathlib.Omega.{arith}
 use lib.Dec.{eqb, ltb, leb}
 use Rattle.std.specs.Orderings.{Decides}
 use Rattle.std.proofs.shelf.Tests.{cond-both, cases-lt, eqb-true, eqb-false, ltb-false}
 use Rattle.std.proofs.shelf.Ways.{decides-and, decides-below-and, tells}
 use Rattle.days.specs.Days.{day, Follows, Reached, Ruled, Lawful}
-use Rattle.days.specs.Bounds.{least, most, Bounded, bounded, bounded-below}
+use Rattle.days.specs.Bounds.{least, most, Bounded}
 
 module _ (d : List ℕ) (k : ℕ) where
   most-600 : most d k ≤ 600
@@ -78,6 +78,14 @@ module _ (d : List ℕ) (k : ℕ) (line : k < 29) (r : Ruled d k) where
 
   pub bounded-from-ruled : Bounded d k
   bounded-from-ruled = (least-kept, most-kept)
+
+-- the bounds as a test, and the test at every line below n
+abbrev bounded : List ℕ → ℕ → Bool
+bounded d k = leb (least d k) (day d k) && leb (day d k) (most d k)
+
+abbrev bounded-below : List ℕ → ℕ → Bool
+bounded-below d zero = true
+bounded-below d (suc n) = bounded d n && bounded-below d n
 
 decides-leb : (a b : ℕ) → Decides (leb a b) (a ≤ b)
 decides-leb a b = grind (arith, tells)

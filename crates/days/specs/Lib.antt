@@ -5,3 +5,4 @@ pub mod Days
 pub mod Bounds
 pub mod Questions
 pub mod Told
+pub mod Tabled

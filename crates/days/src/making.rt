@@ -1,14 +1,10 @@
 // How a day table is made and asked.
 ghost use mathlib.Core.Path.{_≡_};
-ghost use Prim.Native.Nat.{ℕ, _<_};
+ghost use Prim.Native.Nat.{_<_};
 ghost use Rattle.std.specs.Orderings.{Decides};
-ghost use Rattle.std.specs.Options.{Cases as BySome};
-ghost use Rattle.std.specs.Results.{Cases};
-ghost use Rattle.days.specs.Days.{day, Ruled, Lawful, Breach, blank-days};
+ghost use Rattle.days.specs.Days.{day, Lawful, blank-days};
+ghost use Rattle.days.specs.Tabled.{Tabled};
 ghost use Rattle.days.specs.Bounds.{least, most, Bounded};
-ghost use Rattle.days.specs.Questions.{refusal};
-ghost use Rattle.days.specs.Told.{toldSource};
-ghost use Rattle.days.specs.declared.refusal.Layer.the-variants.{Source};
 use crate::fault::SourceFault;
 use crate::lines::LINES;
 use crate::table::DayTable;
@@ -86,7 +82,7 @@ fn is_bounded(days: &[u32; 29], line: usize) -> bool
 impl DayTable {
     // The table of these days, or a refusal at the lowest line in breach of the lawful-day rule.
     pub fn new(days: [u32; 29]) -> Result<DayTable, SourceFault>
-        ensures { λ r. ⌜ Cases r (λ t. (t .days ≡ days) × Lawful days) (λ f. (k : ℕ) × (toldSource f ≡ refusal 15 Source k) × Breach days k) ⌝ }
+        ensures { λ r. ⌜ Tabled days r ⌝ }
     {
         for line in 0..LINES {
             if !is_bounded(&days, line) {
@@ -98,14 +94,16 @@ impl DayTable {
 
     // The blank page's days.
     pub fn blank() -> DayTable
-        ensures { λ r. ⌜ r .days ≡ blank-days ⌝ }
+        ensures days { λ r. ⌜ r .days ≡ blank-days ⌝ }
+        ensures lawful { λ r. ⌜ Lawful (r .days) ⌝ }
     {
         DayTable { days: BLANK_DAYS }
     }
 
     // A line's day; 0 above line 28.
     pub fn day(&self, line: usize) -> u32
-        ensures { λ r. ⌜ r ≡ day (now (self .entry) .days) line ⌝ }
+        ensures answer { λ r. ⌜ r ≡ day (now (self .entry) .days) line ⌝ }
+        ensures lawful { λ _. ⌜ Lawful (now (self .entry) .days) ⌝ }
     {
         if line < LINES { self.days[line] } else { 0 }
     }

@@ -41,12 +41,6 @@ floor-high z n q hi some f h =
     (λ l. let m = times-mono (hi +ℤ pos 1) q n (omega (arith, ints)) in let g = f .reached in let e = times-next hi n in absurd (omega (arith, ints)))
     (λ g. g)
 
-pub floor-one : (z : ℤ) (n : ℕ) (q r : ℤ) → Floor z n q → Floor z n r → q ≡ r
-floor-one z n q r f g =
-    let a = floor-low z n r q g (f .reached) in
-    let b = floor-low z n q r f (g .reached) in
-    omega (arith, ints)
-
 -- a sum of weighed figures and the sum of their weights, with one figure more
 pub low-more : (lo z x : ℤ) (w s : ℕ) → (lo *ℤ pos w) ≤ℤ z → lo ≤ℤ x → (lo *ℤ pos (w + s)) ≤ℤ (z +ℤ pos s *ℤ x)
 low-more lo z x w s h k =

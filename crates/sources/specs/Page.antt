@@ -2,7 +2,7 @@
 use mathlib.Core.Path.{_≡_}
 use mathlib.Core.Bool.{true}
 use mathlib.Core.List.{List}
-use Prim.Native.Nat.{ℕ, _<_, _≤_}
+use Prim.Native.Nat.{ℕ, _≤_}
 use lib.IntN.{ℤ}
 use lib.ListN.{length}
 use Rattle.std.specs.declared.option.Option.{Option}
@@ -10,7 +10,6 @@ use Rattle.std.specs.declared.option.Option.the-variants.{Some, None}
 use Rattle.std.specs.Options.{isSome}
 use Rattle.days.specs.Days.{Lawful}
 use Rattle.days.specs.Lines.{InRange}
-use Rattle.days.specs.Lowest.{Lowest}
 
 -- a valuation day, each line's day, and for each line a figure or nothing
 pub record Page : Type 0 where

@@ -9,4 +9,4 @@ pub returns : need.returns
 returns c =
     c .figure .ensures .answer
     ∙ ap (λ (b : Board). gapFigure (boardPage b) 10) (c .over .ensures .kept)
-    ∙ filled (c .blank .result) (c .in-Ok .board) (c .quote .last .self) (c .quote-2 .last .self) (c .blank .ensures) (c .in-Ok .ensures tt) (c .in-Ok-quote .ensures tt .board) (c .in-Ok-quote-2 .ensures tt .board)
+    ∙ filled (c .blank .result) (c .in-Ok .board) (c .quote .last .self) (c .quote-2 .last .self) (c .blank .ensures .days) (c .in-Ok .ensures tt) (c .in-Ok-quote .ensures tt .board) (c .in-Ok-quote-2 .ensures tt .board)

@@ -1,5 +1,0 @@
-use Rattle.closing.proofs.Spelled.{keywords, Passed}
-use Rattle.closing.proofs.keyword.Keyword.of.Given as given
-
-abbrev pub Inv-loop-keyword : given.InvT-loop-keyword
-Inv-loop-keyword l = Passed keywords (l .word) (l .keyword-index)

@@ -1,0 +1,6 @@
+mod Commands
+mod Counts
+mod Cut
+mod Digits
+mod Spelled
+mod Texts
