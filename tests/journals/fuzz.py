@@ -14,7 +14,7 @@ import model
 
 ODD_NUMBERS = ["0", "007", "4294967295", "4294967296", "-1", "+1", "1x", "600", "601", "70000", "99999999999999999999"]
 ODD_FIGURES = ["-0", "-2147483648", "-2147483649", "2147483647", "2147483648", "0", "--1", "-", "+3"]
-ODD_LINES = ["", "   \t", "# note", "page#", "PAGE", "page page", "days", "days blank x", "quote", "source", "source gap", "source yesterday", "frob", "pa\u00f1o"]
+ODD_LINES = ["", "   \t", "# note", "page#", "PAGE", "page page", "days", "days blank x", "quote", "source", "source gap", "source yesterday", "source reserve frob", "source reserve today today", "source gap reserve yesterday", "source gap gap today", "frob", "pa\u00f1o"]
 
 
 def days(rng):

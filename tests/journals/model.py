@@ -187,8 +187,10 @@ def pile_of(words):
         no_more(words, k + 2)
     if rest[k] != b"reserve":
         raise Bad("word %d is out of place in a source" % (k + 2))
-    for at, wanted in ((k + 2, "today"), (k + 3, "yesterday")):
-        if which(words, at) != wanted:
+    for at, wanted in ((k + 2, b"today"), (k + 3, b"yesterday")):
+        if at >= len(words):
+            raise Bad("word %d is missing" % (at + 1))
+        if words[at] != wanted:
             raise Bad("word %d is out of place in a source" % (at + 1))
     no_more(words, k + 4)
     raise AssertionError(words)
