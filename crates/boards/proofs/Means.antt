@@ -1,7 +1,7 @@
 -- The sums of a line's quotes: what one provider more adds, how large they are, and what their mean shows. Assumes nothing.
 use mathlib.Core.Path.{_≡_, refl, sym, ap, _∙_, subst}
-use mathlib.Core.Logic.{_⊎_, inl, inr, ⊎-elim}
-use mathlib.Core.Bool.{true, cond}
+use mathlib.Core.Logic.{_⊎_, ⊎-elim}
+use mathlib.Core.Bool.{true}
 use mathlib.Core.List.{List}
 use Prim.Native.Nat.{ℕ, zero, suc, _+_, _*_, _<_, _≤_}
 use native.Mathlib.Nat.{add-zero}
@@ -14,13 +14,13 @@ use Rattle.std.specs.declared.option.Option.{Option}
 use Rattle.std.specs.declared.option.Option.the-variants.{Some, None}
 use Rattle.std.specs.Options.{isSome}
 use Rattle.std.proofs.shelf.Signed.{ints}
-use Rattle.std.proofs.shelf.Tests.{cond-both, cond-true, cond-false, eqb-true, eqb-false, eq-eqb, ne-eqb, cases-lt}
+use Rattle.std.proofs.shelf.Tests.{cond-both, cond-true, cond-false, eqb-false, eq-eqb, ne-eqb, cases-lt}
 use Rattle.days.specs.Lines.{InRange, lowest, highest}
 use Rattle.days.proofs.Ranges.{range-from-test, range-wide}
 use Rattle.sources.specs.Rounding.{floorDiv}
-use Rattle.sources.proofs.Floors.{floor-of, floor-low, floor-high, low-more, high-more}
+use Rattle.sources.proofs.Floors.{floor-of, floor-low, floor-high, floor-one, low-more, high-more}
 use Rattle.boards.specs.Quotes.{shareOf, latest, fits}
-use Rattle.boards.specs.Mean.{counted, weighed, weight, total, Counts, Shows, absent, mean, meanOf, shown}
+use Rattle.boards.specs.Mean.{counted, weighed, weight, total, Counts, Shows, absent, mean, shown}
 
 pub quote-range : (k : ℕ) (o : Option ℤ) (x : ℤ) → fits k o ≡ true → o ≡ Some x → InRange k x
 quote-range k o x f e = range-from-test k x (subst (λ v. fits k v ≡ true) e f)
@@ -112,10 +112,12 @@ module _ (s : List ℕ) (q : List (List (Option ℤ))) (k : ℕ) where
   -- a line shows this, and nothing else
   pub shows : Shows s q k (shown s q k)
   shows = ⊎-elim
-      (λ h. let f = from-weight 8 (omega arith) h in mean (f .0) (f .1) (shown-mean h))
+      (λ h. let f = from-weight 8 (omega arith) h in mean (f .0) _ (f .1) (floor-of (total s q k 8) (weight s q k 8) h) (shown-mean h))
       (λ h. absent (λ p c. omega (arith, weight-pos p c)) (shown-none (omega arith)))
       (cases-lt 0 (weight s q k 8))
 
   pub shows-one : (o : Option ℤ) → Shows s q k o → o ≡ shown s q k
   shows-one o (absent n e) = e ∙ sym (shown-none (⊎-elim (λ h. let f = from-weight 8 (omega arith) h in absurd (n (f .0) (f .1))) (λ h. omega arith) (cases-lt 0 (weight s q k 8))))
-  shows-one o (mean p c e) = e ∙ sym (shown-mean (weight-pos p c))
+  shows-one o (mean p x c f e) =
+      let h = weight-pos p c in
+      e ∙ ap Some (floor-one (total s q k 8) (weight s q k 8) x _ f (floor-of (total s q k 8) (weight s q k 8) h)) ∙ sym (shown-mean h)

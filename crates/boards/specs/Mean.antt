@@ -8,7 +8,7 @@ use lib.IntN.{ℤ, pos, _+ℤ_, _*ℤ_}
 use Rattle.std.specs.declared.option.Option.{Option}
 use Rattle.std.specs.declared.option.Option.the-variants.{Some, None}
 use Rattle.std.specs.Options.{isSome}
-use Rattle.sources.specs.Rounding.{floorDiv}
+use Rattle.sources.specs.Rounding.{Floor, floorDiv}
 use Rattle.boards.specs.Quotes.{shareOf, latest}
 
 -- what a provider of share s adds at a line to the sum of shares, and to the sum of shares times figures
@@ -37,7 +37,7 @@ module _ (s : List ℕ) (q : List (List (Option ℤ))) (k : ℕ) where
   -- o is what line k shows
   pub data Shows (o : Option ℤ) : Type 0 where
     absent : ((p : ℕ) → Counts p → ⊥) → o ≡ None → Shows o
-    mean : (p : ℕ) → Counts p → o ≡ Some (floorDiv (total 8) (weight 8)) → Shows o
+    mean : (p : ℕ) (x : ℤ) → Counts p → Floor (total 8) (weight 8) x → o ≡ Some x → Shows o
 
 -- the one such figure
 abbrev pub meanOf : ℤ → ℕ → Option ℤ

@@ -10,7 +10,7 @@ use Rattle.days.specs.declared.fault.SourceFault.{SourceFault}
 use Rattle.days.specs.declared.refusal.Refusal.{Refusal}
 use Rattle.std.specs.Results.{Cases}
 use Rattle.std.specs.declared.option.Option.{Option}
-use Rattle.std.specs.declared.option.Option.the-variants.{Some, None}
+use Rattle.std.specs.declared.option.Option.the-variants.{Some}
 use Rattle.std.specs.declared.result.Result.{Result}
 use Rattle.std.specs.declared.result.Result.the-variants.{Ok, Err}
 use Rattle.closing.specs.Answers.{answerTo, answerOn, Called as Left}

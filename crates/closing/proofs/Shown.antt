@@ -4,8 +4,7 @@ use mathlib.Core.Bool.{Bool}
 use denote.Ref.{RefT, now}
 use Rattle.boards.specs.Board.{boardPage}
 use Rattle.boards.specs.declared.board.Board.{Board}
-use Rattle.layers.specs.Lent.{reservePage}
-use Rattle.sources.specs.Page.{Page as Meant}
+use Rattle.layers.specs.ReservePage.{reservePage}
 use Rattle.std.specs.declared.option.Option.{Option}
 use Rattle.std.specs.declared.option.Option.the-variants.{Some}
 use Rattle.closing.specs.Pages.{RowsOf, RowsIf, basePage, filledPage}

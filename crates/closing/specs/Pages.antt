@@ -6,8 +6,8 @@ use lib.ListN.{length, getD}
 use Rattle.boards.specs.Board.{boardPage}
 use Rattle.boards.specs.declared.board.Board.{Board}
 use Rattle.days.specs.Days.{day}
-use Rattle.layers.specs.Filled.{gapPage}
-use Rattle.layers.specs.Lent.{reservePage}
+use Rattle.layers.specs.GapPage.{gapPage}
+use Rattle.layers.specs.ReservePage.{reservePage}
 use Rattle.sources.specs.Page.{Page as Meant}
 use Rattle.std.specs.declared.option.Option.{Option}
 use Rattle.std.specs.declared.option.Option.the-variants.{Some, None}

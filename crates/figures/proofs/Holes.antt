@@ -16,7 +16,7 @@ use Rattle.boards.specs.Mean.{shown}
 use Rattle.boards.specs.Board.{boardPage, Fresh, OnlyQuote}
 use Rattle.boards.proofs.Moves.{shown-same}
 use Rattle.layers.specs.Gap.{straight, drawn}
-use Rattle.layers.specs.Filled.{gapFigure}
+use Rattle.layers.specs.GapPage.{gapFigure}
 use Rattle.layers.proofs.Filling.{fills-is}
 
 shares : List ℕ

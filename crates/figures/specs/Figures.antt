@@ -2,7 +2,6 @@
 use mathlib.Core.Path.{_≡_}
 use mathlib.Core.Bool.{cond}
 use mathlib.Core.List.{List, [], _∷_}
-use Prim.Native.Nat.{ℕ}
 use lib.Dec.{eqb}
 use lib.IntN.{ℤ, pos, negsuc}
 use Rattle.std.specs.declared.option.Option.{Option}
@@ -10,7 +9,7 @@ use Rattle.std.specs.declared.option.Option.the-variants.{Some, None}
 use Rattle.days.specs.Days.{blank-days}
 use Rattle.sources.specs.Page.{Page}
 use Rattle.boards.specs.Mean.{shown}
-use Rattle.layers.specs.Filled.{gapPage}
+use Rattle.layers.specs.GapPage.{gapPage}
 
 -- forward points of −1 at day 32, none at day 62, −2 at day 92
 abbrev pub pointsWithHole : Page

@@ -1,10 +1,9 @@
 -- A text with more words than its command has says no command: its words tell how many there may be. Assumes nothing.
 use mathlib.Core.Path.{_≡_, refl, sym, ap, _∙_}
 use mathlib.Core.Bool.{Bool, true, false, cond}
-use mathlib.Core.List.{List, []}
-use Prim.Native.Nat.{ℕ, suc}
+use mathlib.Core.List.{List, [], _∷_}
+use Prim.Native.Nat.{ℕ, suc, _+_, _*_}
 use lib.Dec.{eqb, lit<}
-use lib.ListN.{getD}
 use Rattle.std.specs.declared.option.Option.{Option}
 use Rattle.std.specs.declared.option.Option.the-variants.{Some, None}
 use Rattle.journal.specs.Decimal.{naturalOf}
@@ -20,37 +19,41 @@ use Rattle.journal.specs.declared.keyword.Keyword.{Keyword}
 use Rattle.journal.specs.declared.keyword.Keyword.the-variants.{Quote as quoteKey, Unquote as unquoteKey, Today as todayKey, Yesterday as yesterdayKey, Source as sourceKey, Gap as gapKey, Reserve as reserveKey, Page as pageKey, Days as daysKey, Blank as blankKey}
 use Rattle.journal.proofs.Texts.{word-is}
 
-initial : List ℕ → ℕ
-initial w = getD w 0 0
+-- a word as one number, by which words are told apart
+abbrev code : List ℕ → ℕ
+code [] = 0
+code (b ∷ bs) = b + 256 * code bs
 
--- keywords have initials of their own
-abbrev initialed : ℕ → Keyword
-initialed h =
-    cond (eqb h 113) quoteKey
-    (cond (eqb h 117) unquoteKey
-    (cond (eqb h 116) todayKey
-    (cond (eqb h 121) yesterdayKey
-    (cond (eqb h 115) sourceKey
-    (cond (eqb h 103) gapKey
-    (cond (eqb h 114) reserveKey
-    (cond (eqb h 112) pageKey
-    (cond (eqb h 100) daysKey blankKey))))))))
+abbrev is : List ℕ → Keyword → Bool
+is w k = eqb (code w) (code (spelled k))
 
-initialed-is : (k : Keyword) → initialed (initial (spelled k)) ≡ k
-unfolding initial
-initialed-is quoteKey = refl
-initialed-is unquoteKey = refl
-initialed-is todayKey = refl
-initialed-is yesterdayKey = refl
-initialed-is sourceKey = refl
-initialed-is gapKey = refl
-initialed-is reserveKey = refl
-initialed-is pageKey = refl
-initialed-is daysKey = refl
-initialed-is blankKey = refl
+-- the keyword that a word spells
+abbrev keyed : List ℕ → Keyword
+keyed w =
+    cond (is w quoteKey) quoteKey
+    (cond (is w unquoteKey) unquoteKey
+    (cond (is w todayKey) todayKey
+    (cond (is w yesterdayKey) yesterdayKey
+    (cond (is w sourceKey) sourceKey
+    (cond (is w gapKey) gapKey
+    (cond (is w reserveKey) reserveKey
+    (cond (is w pageKey) pageKey
+    (cond (is w daysKey) daysKey blankKey))))))))
+
+keyed-is : (k : Keyword) → keyed (spelled k) ≡ k
+keyed-is quoteKey = refl
+keyed-is unquoteKey = refl
+keyed-is todayKey = refl
+keyed-is yesterdayKey = refl
+keyed-is sourceKey = refl
+keyed-is gapKey = refl
+keyed-is reserveKey = refl
+keyed-is pageKey = refl
+keyed-is daysKey = refl
+keyed-is blankKey = refl
 
 spelled-one : (a b : Keyword) → spelled a ≡ spelled b → a ≡ b
-spelled-one a b e = sym (initialed-is a) ∙ ap (λ w. initialed (initial w)) e ∙ initialed-is b
+spelled-one a b e = sym (keyed-is a) ∙ ap keyed e ∙ keyed-is b
 
 -- how many words follow a keyword, by the first of them
 daysBy : Option ℕ → ℕ
@@ -58,10 +61,10 @@ daysBy None = 1
 daysBy (Some n) = 29
 
 baseBy : List ℕ → ℕ
-baseBy w = cond (eqb (initial w) 116) 1 3
+baseBy w = cond (is w todayKey) 1 3
 
 pileBy : List ℕ → List ℕ → ℕ
-pileBy w v = cond (eqb (initial w) 103) (suc (baseBy v)) (baseBy w)
+pileBy w v = cond (is w gapKey) (suc (baseBy v)) (baseBy w)
 
 countBy : Keyword → List ℕ → ℕ
 countBy quoteKey t = 4
@@ -76,7 +79,7 @@ countBy daysKey t = daysBy (naturalOf (word t 0))
 countBy blankKey t = 0
 
 pile-is : (t : List ℕ) (filled : Bool) (b : Base) → PileWords t filled b → pileCount filled b ≡ pileBy (word t 0) (word t 1)
-unfolding pileBy baseBy initial
+unfolding pileBy baseBy
 pile-is t false OfToday a = sym (ap (λ w. pileBy w (word t 1)) a)
 pile-is t false ReserveTodayYesterday a = sym (ap (λ w. pileBy w (word t 1)) (a .0))
 pile-is t true OfToday a = sym (λ i. pileBy (a .0 i) (a .1 i))

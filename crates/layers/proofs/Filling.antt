@@ -13,7 +13,7 @@ use Rattle.days.specs.Lines.{byGroup}
 use Rattle.days.proofs.Ranges.{rate-of, points-of, uf-of}
 use Rattle.sources.specs.Page.{Page}
 use Rattle.layers.specs.Gap.{Group, Hole, NoneBelow, NoneAbove, Fills, kept, drawn, bare, apart, Gapped}
-use Rattle.layers.specs.Filled.{below, above, lineAt, bridged, gapFigure, gapPage}
+use Rattle.layers.specs.GapPage.{below, above, lineAt, bridged, gapFigure, gapPage}
 use Rattle.layers.proofs.Seeking.{SoughtBelow, SoughtAbove, seek-below, seek-above, below-is, above-is, below-none, above-none}
 
 module _ (p : Page) (k : ℕ) where

@@ -14,7 +14,7 @@ use Rattle.std.proofs.shelf.Ways.{decides-and, decides-like, decides-below-or, 
 use Rattle.days.proofs.Ranges.{rate-of, points-of, uf-of}
 use Rattle.sources.specs.Page.{Page, Sound}
 use Rattle.layers.specs.Reserve.{Thin, Reserved}
-use Rattle.layers.specs.Lent.{absent, gone, thinAmong, thin, reserveFigure, reservePage}
+use Rattle.layers.specs.ReservePage.{absent, gone, thinAmong, thin, reserveFigure, reservePage}
 use Rattle.layers.proofs.Seeking.{clash}
 
 absent-decides : (o : Option ℤ) → Decides (not (isSome o)) (o ≡ None)

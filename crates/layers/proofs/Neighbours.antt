@@ -15,7 +15,7 @@ use Rattle.days.specs.Lines.{byGroup, lowest, highest, InRange}
 use Rattle.days.proofs.Ranges.{points-of, uf-of}
 use Rattle.sources.specs.Page.{Page, Sound}
 use Rattle.layers.specs.Gap.{straight, Group, Hole, Below, Above, Fills, kept, drawn, bare, apart}
-use Rattle.layers.specs.Filled.{gapFigure, gapPage}
+use Rattle.layers.specs.GapPage.{gapFigure, gapPage}
 use Rattle.layers.proofs.Seeking.{clash}
 use Rattle.layers.proofs.Filling.{fills, fills-is}
 use Rattle.layers.proofs.Slopes.{straight-low, straight-high}

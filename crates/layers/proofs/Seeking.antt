@@ -12,7 +12,7 @@ use Rattle.std.specs.Options.{Cases, mapped, orOther}
 use Rattle.std.proofs.shelf.Tests.{cases-lt, cond-both, ltb-true, ltb-false}
 use Rattle.sources.specs.Page.{Page}
 use Rattle.layers.specs.Gap.{Below, Above, NoneBelow, NoneAbove}
-use Rattle.layers.specs.Filled.{seen, below, above}
+use Rattle.layers.specs.GapPage.{seen, below, above}
 
 pub clash : {A : Type 0} (o : Option ℤ) (x : ℤ) → o ≡ Some x → o ≡ None → A
 clash o x e f = absurd (let z : _≡_ {A = ℕ} 0 1 = cc in omega arith)

@@ -1,4 +1,4 @@
 pub mod Gap
-pub mod Filled
+pub mod GapPage
 pub mod Reserve
-pub mod Lent
+pub mod ReservePage

@@ -5,7 +5,7 @@ ghost use Rattle.std.specs.Options.{Cases};
 ghost use Rattle.std.specs.declared.option.Option.the-variants.{Some, None};
 ghost use Rattle.sources.specs.Page.{Page};
 ghost use Rattle.layers.specs.Gap.{straight, Hole, Below, Above, NoneBelow, NoneAbove, Fills, Gapped};
-ghost use Rattle.layers.specs.Filled.{gapPage};
+ghost use Rattle.layers.specs.GapPage.{gapPage};
 use days::table::DayTable;
 use sources::rounding::floor_div;
 use sources::rounding::weigh;

@@ -4,7 +4,7 @@ ghost use Prim.Native.Nat.{_<_};
 ghost use Rattle.std.specs.Orderings.{Decides};
 ghost use Rattle.sources.specs.Page.{Page};
 ghost use Rattle.layers.specs.Reserve.{Thin, Reserved};
-ghost use Rattle.layers.specs.Lent.{absent, gone, reservePage};
+ghost use Rattle.layers.specs.ReservePage.{absent, gone, reservePage};
 use days::table::DayTable;
 use sources::source::QuoteSource;
 

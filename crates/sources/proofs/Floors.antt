@@ -1,12 +1,12 @@
 -- A quotient rounded down is one number, and lies where the whole number of times does. Assumes nothing.
-use mathlib.Core.Path.{_≡_, refl, sym, ap, _∙_}
+use mathlib.Core.Path.{_≡_, refl, ap}
 use mathlib.Core.Logic.{_⊎_, inl, inr}
 use Prim.Native.Nat.{ℕ, _+_, _*_, _/_, _^_, _<_, _≤_}
 use native.Mathlib.Nat.{mul-add, mul-le-mul-left, mul-le-mul-right, add-mul, suc-mul, mod-lt}
 use native.Mathlib.Omega.{arith}
 use borrow.Author.Differences.{up, down, le-out, fits-out}
 use lib.IntN.{ℤ, pos, negsuc, _+ℤ_, _*ℤ_}
-use lib.Signed.{_≤ℤ_, _<ℤ_}
+use lib.Signed.{_≤ℤ_}
 use mir.Syntax.{w32, w64}
 use mir.Val.{SFits}
 use Rattle.std.proofs.shelf.Bits.{div-add-mod'}
@@ -40,6 +40,12 @@ floor-high z n q hi some f h =
     by-ltZ hi q
     (λ l. let m = times-mono (hi +ℤ pos 1) q n (omega (arith, ints)) in let g = f .reached in let e = times-next hi n in absurd (omega (arith, ints)))
     (λ g. g)
+
+pub floor-one : (z : ℤ) (n : ℕ) (q r : ℤ) → Floor z n q → Floor z n r → q ≡ r
+floor-one z n q r f g =
+    let a = floor-low z n r q g (f .reached) in
+    let b = floor-low z n q r f (g .reached) in
+    omega (arith, ints)
 
 -- a sum of weighed figures and the sum of their weights, with one figure more
 pub low-more : (lo z x : ℤ) (w s : ℕ) → (lo *ℤ pos w) ≤ℤ z → lo ≤ℤ x → (lo *ℤ pos (w + s)) ≤ℤ (z +ℤ pos s *ℤ x)

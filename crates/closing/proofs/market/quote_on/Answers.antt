@@ -1,11 +1,11 @@
 use mathlib.Core.Path.{_≡_, sym, subst}
 use lib.IntN.{ℤ}
 use mir.Syntax.{w32}
-use mir.Val.{toZ, ofZ, SFits}
+use mir.Val.{toZ, ofZ}
 use Rattle.std.proofs.shelf.Signed.{toZ-ofZ}
 use Rattle.std.specs.Results.{Cases}
 use Rattle.std.specs.declared.option.Option.{Option}
-use Rattle.std.specs.declared.option.Option.the-variants.{Some, None}
+use Rattle.std.specs.declared.option.Option.the-variants.{Some}
 use Rattle.days.specs.Questions.{refusalOf, firstFailing}
 use Rattle.days.specs.Told.{toldSource}
 use Rattle.boards.specs.Board.{OnlyQuote}

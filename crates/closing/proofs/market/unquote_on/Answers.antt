@@ -1,6 +1,6 @@
 use mathlib.Core.Path.{_≡_, sym}
 use Rattle.std.specs.declared.option.Option.{Option}
-use Rattle.std.specs.declared.option.Option.the-variants.{Some, None}
+use Rattle.std.specs.declared.option.Option.the-variants.{Some}
 use Rattle.boards.specs.declared.board.Board.{Board}
 use Rattle.closing.proofs.Called.{answers, leaves}
 use Rattle.closing.proofs.market.unquote_on.Needs as need

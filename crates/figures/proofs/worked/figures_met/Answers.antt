@@ -1,5 +1,5 @@
 use mathlib.Core.Path.{refl}
-use Rattle.layers.specs.Filled.{gapFigure, bridged}
+use Rattle.layers.specs.GapPage.{gapFigure, bridged}
 use Rattle.figures.proofs.worked.figures_met.Needs as need
 
 pub returns : need.returns

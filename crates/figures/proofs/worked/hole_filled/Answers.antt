@@ -1,7 +1,7 @@
-use mathlib.Core.Path.{sym, ap, _∙_}
+use mathlib.Core.Path.{ap, _∙_}
 use Rattle.boards.specs.declared.board.Board.{Board}
 use Rattle.boards.specs.Board.{boardPage}
-use Rattle.layers.specs.Filled.{gapFigure}
+use Rattle.layers.specs.GapPage.{gapFigure}
 use Rattle.figures.proofs.Holes.{filled}
 use Rattle.figures.proofs.worked.hole_filled.Needs as need
 

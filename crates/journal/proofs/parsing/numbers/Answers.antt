@@ -1,4 +1,4 @@
-use mathlib.Core.Path.{_≡_, refl, sym, ap, _∙_, subst}
+use mathlib.Core.Path.{_≡_, refl, sym, ap, _∙_}
 use Prim.Native.Nat.{_<_}
 use native.Mathlib.Omega.{arith}
 use lib.ListN.{length, length-set, length-replicate}
@@ -6,7 +6,7 @@ use Rattle.std.proofs.shelf.Results.{err-from-errBy}
 use Rattle.std.specs.declared.option.Option.the-variants.{Some, None}
 use Rattle.journal.specs.Decimal.{naturalOf}
 use Rattle.journal.specs.Speech.{firstWord, afterWord}
-use Rattle.journal.specs.Grammar.{after, word}
+use Rattle.journal.specs.Grammar.{word}
 use Rattle.journal.proofs.Texts.{word-is, after-more, numbers-more, numbers-stop}
 use Rattle.journal.proofs.parsing.numbers.Needs as need
 

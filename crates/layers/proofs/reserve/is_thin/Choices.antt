@@ -1,7 +1,7 @@
 use mathlib.Core.Path.{_≡_}
 use mathlib.Core.Bool.{false}
 use Prim.Native.Nat.{ℕ, _<_, _≤_}
-use Rattle.layers.specs.Lent.{gone}
+use Rattle.layers.specs.ReservePage.{gone}
 use Rattle.layers.proofs.reserve.is_thin.Given as given
 
 abbrev pub Inv-loop-line : given.InvT-loop-line

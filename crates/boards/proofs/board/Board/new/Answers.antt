@@ -1,4 +1,4 @@
-use mathlib.Core.Path.{_≡_, refl, ap}
+use mathlib.Core.Path.{refl, ap}
 use mathlib.Core.Logic.{inr, ⊎-elim}
 use Prim.Native.Nat.{_≤_}
 use native.Mathlib.Omega.{arith}

@@ -1,5 +1,5 @@
 use mathlib.Core.Path.{_≡_, sym, ap, _∙_}
-use Prim.Native.Nat.{ℕ, _+_}
+use Prim.Native.Nat.{_+_}
 use native.Mathlib.Omega.{arith}
 use borrow.Author.Needs.{needs}
 use lib.IntN.{ℤ, pos, _*ℤ_}
@@ -7,7 +7,6 @@ use mir.Syntax.{w32}
 use mir.Val.{SFits}
 use Rattle.std.specs.declared.option.Option.the-variants.{Some, None}
 use Rattle.std.proofs.shelf.Signed.{ints, toZ-ofZ}
-use Rattle.boards.specs.declared.board.Board.{Board}
 use Rattle.boards.specs.Quotes.{shareOf}
 use Rattle.boards.specs.Mean.{weight, total}
 use Rattle.boards.proofs.Means.{weight-le, total-wide, weight-more, total-more}

@@ -1,4 +1,4 @@
-use mathlib.Core.Path.{sym, ap, _∙_, subst}
+use mathlib.Core.Path.{sym, ap, subst}
 use Rattle.std.specs.declared.result.Result.the-variants.{Ok}
 use Rattle.closing.specs.Carried.{Carried}
 use Rattle.journal.specs.declared.command.Command.{Command}

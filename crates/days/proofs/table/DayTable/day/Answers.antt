@@ -1,5 +1,4 @@
-use mathlib.Core.Path.{refl, sym}
-use native.Mathlib.Omega.{arith}
+use mathlib.Core.Path.{refl}
 use borrow.Author.Needs.{needs}
 use Rattle.std.proofs.shelf.Lists.{getD-past}
 use Rattle.days.proofs.Rules.{lawful-from-bounded}
