@@ -1,4 +1,6 @@
 // The command `closing`: reads a journal of calls, carries each out, and prints what each gave.
+#![tactic(auto)]
+
 mod answer;
 mod clerk;
 mod help;

@@ -1,4 +1,6 @@
 // Worked figures of the rules, and tests over piles of sources.
+#![tactic(auto)]
+
 #[cfg(test)]
 mod boards_tests;
 #[cfg(test)]

@@ -1,2 +1,4 @@
+#![tactic(auto)]
+
 pub mod gap;
 pub mod reserve;

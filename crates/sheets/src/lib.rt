@@ -1,3 +1,5 @@
+#![tactic(auto)]
+
 mod checking;
 pub mod entries;
 pub mod entry;
