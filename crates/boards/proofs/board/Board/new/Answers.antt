@@ -20,8 +20,8 @@ returns-then-shares-provider-gt-LARGEST-SHARE c =
       ),
     )
 
-pub invariant-of-result : goal.invariant-of-result
-invariant-of-result c =
+pub invariant_of-result : goal.invariant_of-result
+invariant_of-result c =
     let n : length c.args.shares ≤ 8 = search rules in (
       search rules,
       (

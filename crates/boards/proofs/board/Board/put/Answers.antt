@@ -2,8 +2,8 @@ use Rattle.std.proofs.Common.{◌<◌, [], length, get_or, set, refl, ◌∙◌,
 use Rattle.boards.proofs.Puts.{put_fits, put_lines, put_here, put_others}
 use Rattle.boards.proofs.board.Board.put.Goals as goal
 
-pub invariant-of-self : goal.invariant-of-self
-invariant-of-self c =
+pub invariant_of-self : goal.invariant_of-self
+invariant_of-self c =
     let b = c.args.self.now in
     let p = c.args.provider in
     let k = c.args.line in
