@@ -21,8 +21,8 @@ module _ (c : After-weigh-2) where
   fits : SFits w64 sum
   fits = weighed_fits c.args.low.day c.args.low.figure c.args.high.day c.args.high.figure c.args.day c.requires.0 c.requires.1 (search rules) (search rules) (search rules)
 
-pub overflow-add-sum : goal.overflow-add-sum
-overflow-add-sum c = subst (SFits w64) (sym (added c)) (fits c)
+pub overflow_add-sum : goal.overflow_add-sum
+overflow_add-sum c = subst (SFits w64) (sym (added c)) (fits c)
 
 module _ (c : goal.In-ok-figure) where
   abbrev line : ℤ
@@ -31,13 +31,13 @@ module _ (c : goal.In-ok-figure) where
   quotient : c.in-ok-figure.figure ≡ line
   quotient =
       let b = (goal.at.returns c).After-weigh-2 in
-      c.in-ok-figure.ensures.answer.1 ∙ ap (λ z. floor_div z (c.args.high.day - c.args.low.day)) (to_z-of_z w64 _ (overflow-add-sum b) ∙ added b)
+      c.in-ok-figure.ensures.answer.1 ∙ ap (λ z. floor_div z (c.args.high.day - c.args.low.day)) (to_z-of_z w64 _ (overflow_add-sum b) ∙ added b)
 
   small : SFits w32 line
   small = straight_fits c.args.low.day c.args.low.figure c.args.high.day c.args.high.figure c.args.day c.requires.0 c.requires.1 (search rules) (search rules)
 
-pub overflow-cast-result : goal.overflow-cast-result
-overflow-cast-result c = let q = quotient c in let s = small c in omega (arith, ints)
+pub overflow_cast-result : goal.overflow_cast-result
+overflow_cast-result c = let q = quotient c in let s = small c in omega (arith, ints)
 
 pub returns : goal.returns
 returns c = let q = quotient c in let s = small c in ap Some (omega (arith, ints))

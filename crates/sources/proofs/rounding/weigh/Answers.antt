@@ -10,8 +10,8 @@ product w x h f =
     let b : to_z w64 (of_z w64 (to_z w32 (of_z w32 x))) ≡ x = omega (arith, ints) in
     λ i. a i *ℤ b i
 
-pub overflow-mul-result : goal.overflow-mul-result
-overflow-mul-result c =
+pub overflow_mul-result : goal.overflow_mul-result
+overflow_mul-result c =
     let w = c.args.weight in
     let x = c.args.figure in
     subst (SFits w64) (sym (product w x (search rules) c.ranges.figure)) (weighed_fits w x (search rules) c.ranges.figure)

@@ -6,13 +6,13 @@ use Rattle.boards.proofs.Means.{weight_le, total_wide, weight_more, total_more}
 use Rattle.boards.proofs.board.Board.sums.Goals as goal
 use Rattle.boards.proofs.board.Board.sums.Goals.{in-Some, in-default}
 
-pub overflow-add-weight : goal.overflow-add-weight
-overflow-add-weight c =
+pub overflow_add-weight : goal.overflow_add-weight
+overflow_add-weight c =
     let b = c.args.self.now in
     record { fits = omega (arith, c.loop-provider.invariant.0, weight_le b.shares b.quotes c.args.line b.shared c.loop-provider.provider, b.shared c.loop-provider.provider) }
 
-pub overflow-add-total : goal.overflow-add-total
-overflow-add-total c =
+pub overflow_add-total : goal.overflow_add-total
+overflow_add-total c =
     let b = c.args.self.now in
     let k = c.args.line in
     let p = c.loop-provider.provider in

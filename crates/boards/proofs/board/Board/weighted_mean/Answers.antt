@@ -24,8 +24,8 @@ quotient c =
     let wide = range_wide k _ (mean_ranged b.shares b.quotes k (λ p. b.ranged p k) some) in
     record { some = some; is = is; low = subst (λ z. negsuc 1999999 ≤ℤ z) (sym is) wide.0; high = subst (λ z. z ≤ℤ pos 800000000) (sym is) wide.1 }
 
-pub overflow-cast-result : goal.overflow-cast-result
-overflow-cast-result c = let q = quotient c in omega (arith, ints, q.low, q.high)
+pub overflow_cast-result : goal.overflow_cast-result
+overflow_cast-result c = let q = quotient c in omega (arith, ints, q.low, q.high)
 
 pub returns-in-Some : goal.returns-in-Some
 returns-in-Some c =
