@@ -34,7 +34,7 @@ fn straight_at(low: Dated, high: Dated, day: u32) -> Option<i32>
 
 // The nearest present line below a line, from line `from` on.
 fn nearest_below<S: QuoteSource>(s: &S, from: usize, line: usize) -> Option<Seen>
-    ensures { MatchOption result (NoneBelow (page s.now) from line) (λ n. Below (page s.now) from line n.line n.figure) }
+    ensures { MatchOption result (NoneBelow (S.page s.now) from line) (λ n. Below (S.page s.now) from line n.line n.figure) }
 {
     for j in (from..line).rev() {
         if let Some(figure) = s.figure(j) {
@@ -47,7 +47,7 @@ fn nearest_below<S: QuoteSource>(s: &S, from: usize, line: usize) -> Option<Seen
 // The nearest present line above a line, before line `end`.
 fn nearest_above<S: QuoteSource>(s: &S, line: usize, end: usize) -> Option<Seen>
     requires { line < 29 }
-    ensures { MatchOption result (NoneAbove (page s.now) end line) (λ n. Above (page s.now) end line n.line n.figure) }
+    ensures { MatchOption result (NoneAbove (S.page s.now) end line) (λ n. Above (S.page s.now) end line n.line n.figure) }
 {
     for j in line + 1..end {
         if let Some(figure) = s.figure(j) {
@@ -59,8 +59,8 @@ fn nearest_above<S: QuoteSource>(s: &S, line: usize, end: usize) -> Option<Seen>
 
 // The figure of an absent line of a group.
 fn bridge<S: QuoteSource>(s: &S, from: usize, end: usize, line: usize) -> Option<i32>
-    requires { Hole (page s.now) from end line }
-    ensures { Fills (page s.now) line result }
+    requires { Hole (S.page s.now) from end line }
+    ensures { Fills (S.page s.now) line result }
 {
     let below = nearest_below(s, from, line)?;
     let above = nearest_above(s, line, end)?;
@@ -77,8 +77,8 @@ fn bridge<S: QuoteSource>(s: &S, from: usize, end: usize, line: usize) -> Option
 
 // What an absent line has once the gaps are filled.
 fn fill<S: QuoteSource>(s: &S, line: usize) -> Option<i32>
-    requires { (page s.now).figure line ≡ None }
-    ensures { Fills (page s.now) line result }
+    requires { (S.page s.now).figure line ≡ None }
+    ensures { Fills (S.page s.now) line result }
 {
     match line {
         8..16 => bridge(s, 8, 16, line),
@@ -97,15 +97,15 @@ impl<S: QuoteSource> Gap<S> {
     // The source below with its gaps filled: its page is the one page so filled.
     pub fn over(below: S) -> Gap<S>
         ensures kept { result.below ≡ below }
-        ensures means { Gapped (page below) (gap_page (page below)) }
-        ensures one { (q : Page) → Gapped (page below) q → q ≡ gap_page (page below) }
+        ensures means { Gapped (S.page below) (gap_page (S.page below)) }
+        ensures one { (q : Page) → Gapped (S.page below) q → q ≡ gap_page (S.page below) }
     {
         Gap { below }
     }
 }
 
 impl<S: QuoteSource> QuoteSource for Gap<S> {
-    ghost page = { λ g. gap_page (S.QuoteSource.page g.below) };
+    ghost page = { λ g. gap_page (S.page g.below) };
 
     fn valuation_day(&self) -> u32 {
         self.below.valuation_day()

@@ -8,7 +8,7 @@ use days::table::DayTable;
 use sources::source::QuoteSource;
 
 fn is_absent<S: QuoteSource>(s: &S, line: usize) -> bool
-    ensures { result ≡ absent (page s.now) line }
+    ensures { result ≡ absent (S.page s.now) line }
 {
     s.figure(line).is_none()
 }
@@ -16,14 +16,14 @@ fn is_absent<S: QuoteSource>(s: &S, line: usize) -> bool
 // Are the line and the two after it absent?
 fn is_gone<S: QuoteSource>(s: &S, line: usize) -> bool
     requires { line < 27 }
-    ensures { result ≡ gone (page s.now) line }
+    ensures { result ≡ gone (S.page s.now) line }
 {
     is_absent(s, line) && is_absent(s, line + 1) && is_absent(s, line + 2)
 }
 
 // Are some three point lines in a row absent?
 fn is_thin<S: QuoteSource>(s: &S) -> bool
-    ensures { Decides result (Thin (page s.now)) }
+    ensures { Decides result (Thin (S.page s.now)) }
 {
     for line in 8..14 {
         if is_gone(s, line) {
@@ -44,8 +44,8 @@ impl<A: QuoteSource, B: QuoteSource> Reserve<A, B> {
     // The first source with the second in reserve: its page is the one page so made.
     pub fn of(first: A, second: B) -> Reserve<A, B>
         ensures kept { (result.first ≡ first) × (result.second ≡ second) }
-        ensures means { Reserved (A.QuoteSource.page first) (B.QuoteSource.page second) (reserve_page (A.QuoteSource.page first) (B.QuoteSource.page second)) }
-        ensures one { (r : Page) → Reserved (A.QuoteSource.page first) (B.QuoteSource.page second) r → r ≡ reserve_page (A.QuoteSource.page first) (B.QuoteSource.page second) }
+        ensures means { Reserved (A.page first) (B.page second) (reserve_page (A.page first) (B.page second)) }
+        ensures one { (r : Page) → Reserved (A.page first) (B.page second) r → r ≡ reserve_page (A.page first) (B.page second) }
     {
         Reserve { first, second }
     }
@@ -53,7 +53,7 @@ impl<A: QuoteSource, B: QuoteSource> Reserve<A, B> {
 
 // Every question asks both sources: only a source's own answers show that its page is sound.
 impl<A: QuoteSource, B: QuoteSource> QuoteSource for Reserve<A, B> {
-    ghost page = { λ s. reserve_page (A.QuoteSource.page s.first) (B.QuoteSource.page s.second) };
+    ghost page = { λ s. reserve_page (A.page s.first) (B.page s.second) };
 
     fn valuation_day(&self) -> u32 {
         let _ = self.second.valuation_day();

@@ -3,7 +3,7 @@ use crate::source::QuoteSource;
 use days::table::DayTable;
 
 impl<S: QuoteSource> QuoteSource for &S {
-    ghost page = { λ s. S.QuoteSource.page s.now };
+    ghost page = { λ s. S.page s.now };
 
     fn valuation_day(&self) -> u32 {
         (**self).valuation_day()

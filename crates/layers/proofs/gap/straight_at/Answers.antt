@@ -24,14 +24,14 @@ module _ (c : After-weigh-2) where
 pub overflow_add-sum : goal.overflow_add-sum
 overflow_add-sum c = subst (SFits w64) (sym (added c)) (fits c)
 
-module _ (c : goal.In-ok-figure) where
+module _ (c : goal.In_ok-figure) where
   abbrev line : ℤ
   line = straight c.args.low.day c.args.low.figure c.args.high.day c.args.high.figure c.args.day
 
-  quotient : c.in-ok-figure.figure ≡ line
+  quotient : c.in_ok-figure.figure ≡ line
   quotient =
       let b = (goal.at.returns c).After-weigh-2 in
-      c.in-ok-figure.ensures.answer.1 ∙ ap (λ z. floor_div z (c.args.high.day - c.args.low.day)) (to_z-of_z w64 _ (overflow_add-sum b) ∙ added b)
+      c.in_ok-figure.ensures.answer.1 ∙ ap (λ z. floor_div z (c.args.high.day - c.args.low.day)) (to_z-of_z w64 _ (overflow_add-sum b) ∙ added b)
 
   small : SFits w32 line
   small = straight_fits c.args.low.day c.args.low.figure c.args.high.day c.args.high.figure c.args.day c.requires.0 c.requires.1 (search rules) (search rules)

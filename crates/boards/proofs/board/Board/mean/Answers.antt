@@ -8,7 +8,7 @@ returns c =
     let s = c.args.self.now.shares in
     let q = c.args.self.now.quotes in
     let k = c.args.line in
-    let e = c.weighted-mean.ensures in
+    let e = c.weighted_mean.ensures in
     record {
       answer = e;
       shows = subst (Shows s q k) (sym e) (shows s q k);

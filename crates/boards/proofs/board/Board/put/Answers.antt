@@ -7,16 +7,14 @@ invariant_of-self c =
     let b = c.args.self.now in
     let p = c.args.provider in
     let k = c.args.line in
-    let o = c.args.quote in (
-      b.dated,
-      (
-        b.shared,
-        (
-          length-set b.quotes p (set (get_or b.quotes p []) k o) ∙ b.rows,
-          (put_lines b.quotes p k o b.lines c.requires.0, (put_fits b.quotes p k o c.requires.1.1 b.ranged, tt)),
-        ),
-      ),
-    )
+    let o = c.args.quote in
+    record {
+      dated = b.dated;
+      shared = b.shared;
+      rows = length-set b.quotes p (set (get_or b.quotes p []) k o) ∙ b.rows;
+      lines = put_lines b.quotes p k o b.lines c.requires.0;
+      ranged = put_fits b.quotes p k o c.requires.1.1 b.ranged;
+    }
 
 pub returns : goal.returns
 returns c =

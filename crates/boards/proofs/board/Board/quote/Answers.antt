@@ -8,16 +8,16 @@ use Rattle.boards.proofs.Asks.{quoting_passed}
 use Rattle.boards.proofs.Moves.{only_line, now_present}
 use Rattle.boards.proofs.board.Board.quote.Goals as goal
 
-pub returns-in-err-ask-quote : goal.returns-in-err-ask-quote
-returns-in-err-ask-quote c =
+pub returns-in_err-ask_quote : goal.returns-in_err-ask_quote
+returns-in_err-ask_quote c =
     let f : SFits w32 c.args.figure = c.ranges.figure in
-    let p = err_from_is_err_and c.from-residual.result c.from-residual.ensures.1 in
-    rw (p.1, p.2) (record { answer = simp to_z-of_z at c.in-err-ask-quote.ensures; board = refl; page = tt; shown = tt })
+    let p = err_from_is_err_and c.from_residual.result c.from_residual.ensures.1 in
+    rw (p.1, p.2) (record { answer = simp to_z-of_z at c.in_err-ask_quote.ensures; board = refl; page = tt; shown = tt })
 
 pub put-requires : goal.put-requires
 put-requires c =
     let f : SFits w32 c.args.figure = c.ranges.figure in
-    simp to_z-of_z (quoting_passed c.args.provider c.args.line c.args.figure (simp to_z-of_z at c.in-ok-ask-quote.ensures))
+    simp to_z-of_z (quoting_passed c.args.provider c.args.line c.args.figure (simp to_z-of_z at c.in_ok-ask_quote.ensures))
 
 pub returns : goal.returns
 returns c =
@@ -27,6 +27,6 @@ returns c =
     let k = c.args.line in
     let x = c.args.figure in
     let f : SFits w32 x = c.ranges.figure in
-    let asked : None ≡ first_failing (quoting p k x) = simp to_z-of_z at c.in-ok-ask-quote.ensures in
+    let asked : None ≡ first_failing (quoting p k x) = simp to_z-of_z at c.in_ok-ask_quote.ensures in
     let only : OnlyQuote b a p k (Some x) = simp to_z-of_z at c.put.ensures in
     record { answer = asked; board = only; page = only_line b a p k (Some x) only; shown = now_present b a p k (Some x) only x refl (quoting_passed p k x asked).0 }

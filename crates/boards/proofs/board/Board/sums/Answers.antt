@@ -4,7 +4,7 @@ use Rattle.boards.specs.Quotes.{share_of}
 use Rattle.boards.specs.Mean.{weight, total}
 use Rattle.boards.proofs.Means.{weight_le, total_wide, weight_more, total_more}
 use Rattle.boards.proofs.board.Board.sums.Goals as goal
-use Rattle.boards.proofs.board.Board.sums.Goals.{in-Some, in-default}
+use Rattle.boards.proofs.board.Board.sums.Goals.{in-Some, in_default}
 
 pub overflow_add-weight : goal.overflow_add-weight
 overflow_add-weight c =
@@ -38,8 +38,8 @@ loop-provider-preserved c =
           let wide = total_wide b.shares b.quotes k (λ i. b.ranged i k) (p + 1) in
           let l = weight_le b.shares b.quotes k b.shared (p + 1) in
           (omega (arith, w.weight-is, c.loop-provider.invariant.0), omega (arith, ints, w.total-is))
-      | in-default w ↦
-          let is = sym c.latest.ensures ∙ w.in-default.is in
+      | in_default w ↦
+          let is = sym c.latest.ensures ∙ w.in_default.is in
           let m = weight_more b.shares b.quotes k p None is in
           let e = total_more b.shares b.quotes k p None is in
           (omega (arith, w.weight-is, c.loop-provider.invariant.0), omega (arith, ints, w.total-is))
