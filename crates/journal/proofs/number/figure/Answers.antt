@@ -7,4 +7,4 @@ pub returns-in-45 : goal.returns-in-45
 returns-in-45 c =
     let some : 0 < length c.args.word.now = search rules in
     let first : get_or c.args.word.now 0 0 ≡ 45 = search rules in
-    c.below-zero.ensures ∙ ap (signed minus (2 ^ 31)) c.natural.ensures ∙ after_minus c.args.word.now some first
+    c.below_zero.ensures ∙ ap (signed minus (2 ^ 31)) c.natural.ensures ∙ after_minus c.args.word.now some first

@@ -8,20 +8,20 @@ use Rattle.sheets.specs.Asked.{opening, line, of_words}
 use Rattle.sheets.proofs.Due.{no_word, first_word}
 use Rattle.sheets.proofs.checking.open_sheet.Goals as goal
 
-pub returns-in-default : goal.returns-in-default
-returns-in-default c = no_word opening 0 c.args.words.now (search rules)
+pub returns-in_default : goal.returns-in_default
+returns-in_default c = no_word opening 0 c.args.words.now (search rules)
 
-pub returns-in-err-valuation : goal.returns-in-err-valuation
-returns-in-err-valuation c =
-    let p = err_from_is_err_and c.from-residual.result c.from-residual.ensures.1 in
+pub returns-in_err-valuation : goal.returns-in_err-valuation
+returns-in_err-valuation c =
+    let p = err_from_is_err_and c.from_residual.result c.from_residual.ensures.1 in
     let ws = c.args.words.now in
-    rw (p.1, p.2) (first_word opening 0 ws (search rules) ∙ ap (λ (o : Option Refusal). option_or o (first_failing (of_words (line 0) 1 (drop 1 ws)))) c.in-err-valuation.ensures)
+    rw (p.1, p.2) (first_word opening 0 ws (search rules) ∙ ap (λ (o : Option Refusal). option_or o (first_failing (of_words (line 0) 1 (drop 1 ws)))) c.in_err-valuation.ensures)
 
 pub returns : goal.returns
 returns c =
     let ws = c.args.words.now in
     let rest = take_rest ws 1 in
-    let valuation = c.in-ok-valuation.ensures in
+    let valuation = c.in_ok-valuation.ensures in
     record {
       asked_on =
           first_word opening 0 ws (search rules) ∙ ap (λ (o : Option Refusal). option_or o (first_failing (of_words (line 0) 1 (drop 1 ws)))) valuation.1

@@ -4,8 +4,8 @@ use Rattle.sheets.specs.Entries.{entries_from}
 use Rattle.sheets.proofs.Handed.{entries_none}
 use Rattle.sheets.proofs.meaning.after_opening.Goals as goal
 
-pub returns-in-default : goal.returns-in-default
-returns-in-default c =
+pub returns-in_default : goal.returns-in_default
+returns-in_default c =
     let ws = c.args.words.now in
     let short : length ws < 1 = search rules in
     record {

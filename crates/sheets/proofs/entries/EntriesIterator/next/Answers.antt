@@ -6,12 +6,12 @@ use Rattle.sheets.specs.Reader.{address, ReadsFrom}
 use Rattle.sheets.specs.declared.entry.Entries.{Entries}
 use Rattle.sheets.proofs.Handed.{entries_quoted, entries_bare, entries_none, one_word, two_words, further}
 use Rattle.sheets.proofs.entries.EntriesIterator.next.Goals as goal
-use Rattle.sheets.proofs.entries.EntriesIterator.next.Goals.{in-default-via-then-self-lt1, in-default-via-else-self-lt1+in-len1-up+else-is-of-3}
+use Rattle.sheets.proofs.entries.EntriesIterator.next.Goals.{in_default-via-then-self-lt1, in_default-via-else-self-lt1+in-len1-up+else-is_of-3}
 use Rattle.std.proofs.iter.Next.{firm}
 
 -- where the word n places further on lies
 lies : (w : Bor (List ℕ)) (s : Entries) (n m : ℕ) → m ≡ s.place + n → ReadsFrom w s → ◌≡◌ {A = ℕ × ℕ} (s.rest.ref_ptr.0, n * 4 + s.rest.ref_ptr.1) (address w m)
-lies w s n m h e = further w.ref-ptr.0 w.ref-ptr.1 s.place n m s.rest.ref_ptr h e
+lies w s n m h e = further w.ref_ptr.0 w.ref_ptr.1 s.place n m s.rest.ref_ptr h e
 
 pub returns-in-len2-up : goal.returns-in-len2-up
 returns-in-len2-up c =
@@ -55,11 +55,11 @@ returns-in-len1-up c =
       goes = firm ((tt, tt, omega (arith, ap length words))) (λ h. search rules);
     }
 
-pub returns-in-default : goal.returns-in-default
-returns-in-default c =
+pub returns-in_default : goal.returns-in_default
+returns-in_default c =
     let i = c.args.self.now.place in
     let ws = c.args.self.now.rest.now in
     let head : 1 ≤ length ws → eqb (kind (get_or ws 0 0)) 0 ≡ false = search rules in
-    let rest : c.in-default.self.rest ≡ c.args.self.now.rest = elim c.in-default.branch [ in-default-via-then-self-lt1 w ↦ ap (λ (t : Entries). t.rest) w.self-is | in-default-via-else-self-lt1+in-len1-up+else-is-of-3 w ↦ ap (λ (t : Entries). t.rest) w.self-is ] in
-    let place : c.in-default.self.place ≡ i = elim c.in-default.branch [ in-default-via-then-self-lt1 w ↦ ap (λ (t : Entries). t.place) w.self-is | in-default-via-else-self-lt1+in-len1-up+else-is-of-3 w ↦ ap (λ (t : Entries). t.place) w.self-is ] in
+    let rest : c.in_default.self.rest ≡ c.args.self.now.rest = elim c.in_default.branch [ in_default-via-then-self-lt1 w ↦ ap (λ (t : Entries). t.rest) w.self-is | in_default-via-else-self-lt1+in-len1-up+else-is_of-3 w ↦ ap (λ (t : Entries). t.rest) w.self-is ] in
+    let place : c.in_default.self.place ≡ i = elim c.in_default.branch [ in_default-via-then-self-lt1 w ↦ ap (λ (t : Entries). t.place) w.self-is | in_default-via-else-self-lt1+in-len1-up+else-is_of-3 w ↦ ap (λ (t : Entries). t.place) w.self-is ] in
     record { steps = (entries_none i ws head, rest, place); goes = firm (tt) (λ h. search rules) }

@@ -6,11 +6,11 @@ use Rattle.sheets.proofs.Meant.{ok_accepted, err_accepted}
 use Rattle.sheets.proofs.Standing.{all_of, entries_told, entries_refused, some_words}
 use Rattle.sheets.proofs.sheet.Sheet.entries.Goals as goal
 
-pub returns-in-default : goal.returns-in-default
-returns-in-default c =
+pub returns-in_default : goal.returns-in_default
+returns-in_default c =
     let s = c.args.self.now in
     let ws = s.words.now in
-    let no-sheet = err_accepted ws s.outcome s.read _ c.in-default.is in
+    let no-sheet = err_accepted ws s.outcome s.read _ c.in_default.is in
     let none = entries_none 0 [] (λ h. absurd (omega arith)) in
     record {
       entries = none ∙ sym (entries_refused ws no-sheet);
@@ -24,10 +24,10 @@ returns c =
     let s = c.args.self.now in
     let ws = s.words.now in
     let accepts = ok_accepted ws s.outcome s.read _ c.in-Ok.is in
-    let told = c.after-opening.ensures.entries in
+    let told = c.after_opening.ensures.entries in
     record {
       entries = told ∙ sym (entries_told ws accepts);
       all = λ e. subst (AllOf ws) (sym told) (all_of ws e);
-      lent = λ e. c.after-opening.ensures.lent (some_words ws e);
+      lent = λ e. c.after_opening.ensures.lent (some_words ws e);
       none = λ e. absurd (both_ways _ e accepts);
     }
