@@ -63,9 +63,9 @@ fn answer(market: &mut Market, line: &[u8]) -> Result<Option<Answer>, Complaint>
     }
 }
 
-pub(crate) fn written(outcome: io::Result<()>) -> Result<(), Stop> {
+pub(crate) fn written<T>(outcome: io::Result<T>) -> Result<T, Stop> {
     match outcome {
-        Ok(()) => Ok(()),
+        Ok(value) => Ok(value),
         Err(why) => Err(Stop::Unwritable { why }),
     }
 }

@@ -11,19 +11,26 @@ mod stop;
 
 use clerk::{Clerk, written};
 use help::HELP;
-use std::io::{BufReader, BufWriter, Write};
+use std::io::{BufReader, BufWriter, Read, Write};
+use std::process::ExitCode;
 use std::{env, fs, io};
 use stop::{Input, Stop};
 
-fn main(rt: HostRuntime) -> Result<(), Stop> {
-    let mut out = BufWriter::new(rt.stdout());
-    let outcome = run(&rt, &mut out);
-    let flushed = written(out.flush());
-    let outcome = if outcome.is_ok() { flushed } else { outcome };
-    if let Err(stop) = &outcome {
-        let _ = eprintln!(rt; "{stop}");
+fn main(rt: HostRuntime) -> ExitCode {
+    match work(&rt) {
+        Ok(()) => ExitCode::SUCCESS,
+        Err(stop) => {
+            let _ = eprintln!(rt; "{stop}");
+            ExitCode::FAILURE
+        }
     }
-    outcome
+}
+
+fn work(rt: &HostRuntime) -> Result<(), Stop> {
+    let mut out = written(BufWriter::new(rt.alloc(), rt.stdout()))?;
+    let outcome = run(rt, &mut out);
+    let flushed = written(out.flush());
+    if outcome.is_ok() { flushed } else { outcome }
 }
 
 fn run<W: Write>(rt: &HostRuntime, out: &mut W) -> Result<(), Stop> {
@@ -44,7 +51,7 @@ fn read<W: Write>(
     out: &mut W,
 ) -> Result<(), Stop> {
     if files.is_empty() {
-        return clerk.work_through(Input::Standard, &mut BufReader::new(rt.stdin()), out);
+        return work_through(rt, Input::Standard, rt.stdin(), clerk, out);
     }
     for file in files {
         read_file(rt, file, clerk, out)?;
@@ -78,10 +85,23 @@ fn read_file<W: Write>(
     out: &mut W,
 ) -> Result<(), Stop> {
     match fs::open(rt, file.as_str()) {
-        Ok(opened) => clerk.work_through(Input::File(file), &mut BufReader::new(opened), out),
+        Ok(opened) => work_through(rt, Input::File(file), opened, clerk, out),
         Err(why) => Err(Stop::Unreadable {
             input: Input::File(file),
             why,
         }),
+    }
+}
+
+fn work_through<R: Read + Drop, W: Write>(
+    rt: &HostRuntime,
+    input: Input,
+    from: R,
+    clerk: &mut Clerk,
+    out: &mut W,
+) -> Result<(), Stop> {
+    match BufReader::new(rt.alloc(), from) {
+        Ok(mut lines) => clerk.work_through(input, &mut lines, out),
+        Err(why) => Err(Stop::Unreadable { input, why }),
     }
 }

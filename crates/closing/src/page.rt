@@ -21,7 +21,7 @@ struct Row {
 impl Page {
     // The page that a source means, with its gaps filled or as it is.
     pub(crate) fn over<S: QuoteSource + Drop>(source: S, filled: bool) -> Page
-        ensures { RowsOf (filled_page filled (page source)) result }
+        ensures { RowsOf (filled_page filled (S.page source)) result }
     {
         if filled {
             Page::of(&Gap::over(source))
@@ -32,7 +32,7 @@ impl Page {
 
     // The page that a source means.
     fn of<S: QuoteSource>(source: &S) -> Page
-        ensures { RowsOf (page source.now) result }
+        ensures { RowsOf (S.page source.now) result }
     {
         let mut rows = [Row {
             day: 0,

@@ -1,5 +1,5 @@
 -- How keywords are spelled. Assumes nothing.
-use Rattle.std.specs.Prelude.{◌≡◌, ℕ, List, codes, ◌≢◌}
+use Rattle.std.specs.Prelude.{ℕ, List, codes, ◌≢◌}
 use Rattle.journal.specs.declared.keyword.Keyword.{Keyword}
 use Rattle.journal.specs.declared.keyword.Keyword.TheVariants.{Quote, Unquote, Today, Yesterday, Source, Gap, Reserve, Page, Days, Blank}
 
