@@ -11,7 +11,8 @@ mod stop;
 
 use clerk::{Clerk, written};
 use help::HELP;
-use std::io::{BufReader, BufWriter, Read, Write};
+use std::fs::File;
+use std::io::{BufRead, BufReader, BufWriter, Write};
 use std::process::ExitCode;
 use std::{env, fs, io};
 use stop::{Input, Stop};
@@ -51,10 +52,12 @@ fn read<W: Write>(
     out: &mut W,
 ) -> Result<(), Stop> {
     if files.is_empty() {
-        return work_through(rt, Input::Standard, rt.stdin(), clerk, out);
+        let lines = BufReader::new(rt.alloc(), rt.stdin());
+        return work_through(Input::Standard, lines, clerk, out);
     }
     for file in files {
-        read_file(rt, file, clerk, out)?;
+        let lines = lines_of(rt, file.as_str());
+        work_through(Input::File(file), lines, clerk, out)?;
     }
     Ok(())
 }
@@ -78,29 +81,17 @@ fn files(rt: &HostRuntime) -> Result<Vec<String>, Stop> {
     }
 }
 
-fn read_file<W: Write>(
-    rt: &HostRuntime,
-    file: String,
-    clerk: &mut Clerk,
-    out: &mut W,
-) -> Result<(), Stop> {
-    match fs::open(rt, file.as_str()) {
-        Ok(opened) => work_through(rt, Input::File(file), opened, clerk, out),
-        Err(why) => Err(Stop::Unreadable {
-            input: Input::File(file),
-            why,
-        }),
-    }
+fn lines_of(rt: &HostRuntime, file: &str) -> io::Result<BufReader<File>> {
+    BufReader::new(rt.alloc(), fs::open(rt, file)?)
 }
 
-fn work_through<R: Read + Drop, W: Write>(
-    rt: &HostRuntime,
+fn work_through<R: BufRead + Drop, W: Write>(
     input: Input,
-    from: R,
+    lines: io::Result<R>,
     clerk: &mut Clerk,
     out: &mut W,
 ) -> Result<(), Stop> {
-    match BufReader::new(rt.alloc(), from) {
+    match lines {
         Ok(mut lines) => clerk.work_through(input, &mut lines, out),
         Err(why) => Err(Stop::Unreadable { input, why }),
     }
