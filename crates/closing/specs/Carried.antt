@@ -1,5 +1,5 @@
 -- What carrying a command out gives, and what it leaves of the market. Assumes nothing.
-use Rattle.std.specs.Prelude.{◌≡◌, cond, is_ok, Some, None, Ok, Result, MatchResult}
+use Rattle.std.specs.Prelude.{◌≡◌, ℕ, List, cond, is_ok, Some, None, Ok, Result, MatchResult}
 use Rattle.days.specs.Days.{blank_days}
 use Rattle.days.specs.Tabled.{Tabled}
 use Rattle.days.specs.Questions.{refusal_of, first_failing}
@@ -15,8 +15,18 @@ use Rattle.closing.specs.Markets.{board_of, choosing, chosen, with_days, with_bo
 use Rattle.closing.specs.declared.answer.Answer.{Answer}
 use Rattle.journal.specs.declared.command.Command.{Command}
 use Rattle.journal.specs.declared.command.Command.TheVariants.{BlankDays, Days, Make, Quote, Unquote, Source as Choose, Page}
+use Rattle.journal.specs.declared.command.Which.{Which}
 use Rattle.journal.specs.declared.complaint.Complaint.{Complaint}
 use Rattle.closing.specs.declared.market.Market.{Market}
+
+-- setting the day table to these days, or not: market m becomes n
+abbrev pub DaysSet : List ℕ → Market → Market → Result (Unit {0}) SourceFault → Type 0
+DaysSet d m n r = (t : Result DayTable SourceFault) × Tabled d t × (refusal_of told_source r ≡ refusal_of told_source t) × (n ≡ with_days t m)
+
+-- making the board of a name, or not: market m becomes n
+abbrev pub BoardMade : Which → ℕ → List ℕ → Market → Market → Result (Unit {0}) SourceFault → Type 0
+BoardMade w v s m n r =
+    (b : Result Board SourceFault) × MatchResult b (Fresh v m.days s) (Refused v s) × (refusal_of told_source r ≡ refusal_of told_source b) × (n ≡ with_board w b m)
 
 -- market m becomes n, and r is the answer
 abbrev pub Carried : Command → Market → Market → Result Answer Complaint → Type 0

@@ -2,3 +2,4 @@ pub mod Answers
 pub mod Carried
 pub mod Markets
 pub mod Pages
+pub mod Lending

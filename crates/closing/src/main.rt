@@ -6,16 +6,15 @@ mod clerk;
 mod help;
 mod market;
 mod page;
-mod reading;
 mod stop;
 
-use clerk::{Clerk, written};
+use clerk::Clerk;
 use help::HELP;
 use std::fs::File;
 use std::io::{BufRead, BufReader, BufWriter, Write};
 use std::process::ExitCode;
 use std::{env, fs, io};
-use stop::{Input, Stop};
+use stop::{Input, Stop, written};
 
 fn main(rt: HostRuntime) -> ExitCode {
     match work(&rt) {
@@ -30,8 +29,7 @@ fn main(rt: HostRuntime) -> ExitCode {
 fn work(rt: &HostRuntime) -> Result<(), Stop> {
     let mut out = written(BufWriter::new(rt.alloc(), rt.stdout()))?;
     let outcome = run(rt, &mut out);
-    let flushed = written(out.flush());
-    if outcome.is_ok() { flushed } else { outcome }
+    outcome.and(written(out.flush()))
 }
 
 fn run<W: Write>(rt: &HostRuntime, out: &mut W) -> Result<(), Stop> {
@@ -39,60 +37,55 @@ fn run<W: Write>(rt: &HostRuntime, out: &mut W) -> Result<(), Stop> {
     if asks_for_help(files.as_slice()) {
         return written(write!(out, "{HELP}"));
     }
-    let mut clerk = Clerk::new(rt.alloc());
-    read(rt, files, &mut clerk, out)?;
-    clerk.close(out)
+    let mut clerk = Clerk::new(rt.alloc(), out);
+    read(rt, files, &mut clerk)?;
+    clerk.close()
 }
 
 // The files one after another; with no file, standard input.
-fn read<W: Write>(
+fn read<W: Write + Drop>(
     rt: &HostRuntime,
     files: Vec<String>,
-    clerk: &mut Clerk,
-    out: &mut W,
+    clerk: &mut Clerk<W>,
 ) -> Result<(), Stop> {
     if files.is_empty() {
         let lines = BufReader::new(rt.alloc(), rt.stdin());
-        return work_through(Input::Standard, lines, clerk, out);
+        return work_through(Input::Standard, lines, clerk);
     }
     for file in files {
         let lines = lines_of(rt, file.as_str());
-        work_through(Input::File(file), lines, clerk, out)?;
+        work_through(Input::File(file), lines, clerk)?;
     }
     Ok(())
 }
 
 fn asks_for_help(files: &[String]) -> bool {
     match files {
-        [only] => only.as_str() == "--help" || only.as_str() == "-h",
+        [only] => matches!(only.as_str(), "--help" | "-h"),
         _ => false,
     }
 }
 
 fn files(rt: &HostRuntime) -> Result<Vec<String>, Stop> {
-    match env::args(rt) {
-        Ok(args) => match args.skip(1).collect(rt.alloc()) {
-            Ok(files) => Ok(files),
-            Err(why) => Err(Stop::NoArguments {
-                why: io::Error::from(why),
-            }),
-        },
-        Err(why) => Err(Stop::NoArguments { why }),
-    }
+    given(rt).map_err(|why| Stop::NoArguments { why })
+}
+
+// The arguments after the program's name.
+fn given(rt: &HostRuntime) -> io::Result<Vec<String>> {
+    Ok(env::args(rt)?.skip(1).collect(rt.alloc())?)
 }
 
 fn lines_of(rt: &HostRuntime, file: &str) -> io::Result<BufReader<File>> {
     BufReader::new(rt.alloc(), fs::open(rt, file)?)
 }
 
-fn work_through<R: BufRead + Drop, W: Write>(
+fn work_through<R: BufRead + Drop, W: Write + Drop>(
     input: Input,
     lines: io::Result<R>,
-    clerk: &mut Clerk,
-    out: &mut W,
+    clerk: &mut Clerk<W>,
 ) -> Result<(), Stop> {
     match lines {
-        Ok(mut lines) => clerk.work_through(input, &mut lines, out),
+        Ok(lines) => clerk.work_through(input, lines),
         Err(why) => Err(Stop::Unreadable { input, why }),
     }
 }

@@ -1,19 +1,20 @@
 // What a journal has told so far: the day table, the boards, and the chosen source.
 ghost use Rattle.std.specs.Prelude.{◌≡◌, is_ok, if◌then◌else◌, Some, None, Err, MatchResult};
 ghost use Rattle.days.specs.Days.{blank_days};
-ghost use Rattle.days.specs.Questions.{refusal_of, first_failing};
-ghost use Rattle.days.specs.Told.{told_source};
-ghost use Rattle.boards.specs.Quoting.{quoting, unquoting};
-ghost use Rattle.closing.specs.Answers.{answer_to, answer_on, Called};
-ghost use Rattle.closing.specs.Carried.{Carried};
+ghost use Rattle.std.specs.Borrow.{sem};
+ghost use Rattle.std.specs.Option.{option_copied_mut};
+ghost use Rattle.closing.specs.Lending.{LendsBoard, LendsFound};
+ghost use Rattle.closing.specs.Carried.{Carried, DaysSet, BoardMade};
 ghost use Rattle.journal.specs.declared.complaint.Complaint.TheVariants.{BoardNotMade};
 ghost use Rattle.closing.specs.Pages.{base_page, RowsIf, Paged};
-ghost use Rattle.closing.specs.Markets.{board_of, choosing, chosen, with_days, with_board, Beside};
+ghost use Rattle.closing.specs.Markets.{board_of, choosing, chosen, Beside};
 
 use crate::answer::Answer;
 use crate::page::Page;
 use boards::board::Board;
+use boards::quoting::PROVIDERS;
 use days::fault::SourceFault;
+use days::lines::LINES;
 use days::table::DayTable;
 use journal::command::{Base, Command, Pile, Which};
 use journal::complaint::Complaint;
@@ -31,7 +32,10 @@ pub(crate) struct Market {
 
 impl Market {
     pub(crate) fn new() -> Market
-        ensures { (result.days.days ≡ blank_days) × (result.today ≡ None) × (result.yesterday ≡ None) × (result.pile ≡ None) }
+        ensures days { result.days.days ≡ blank_days }
+        ensures today { result.today ≡ None }
+        ensures yesterday { result.yesterday ≡ None }
+        ensures pile { result.pile ≡ None }
     {
         Market {
             days: DayTable::blank(),
@@ -46,83 +50,61 @@ impl Market {
         ensures { Carried command.now self.old self.new result }
     {
         match *command {
-            Command::BlankDays => Ok(self.set_days(Ok(DayTable::blank()))),
-            Command::Days { days } => Ok(self.set_days(DayTable::new(days))),
+            Command::BlankDays => {
+                self.days = DayTable::blank();
+                Ok(Answer::Done)
+            }
+            Command::Days { days } => Ok(Answer::from(self.set_days(days))),
             Command::Make { which, day, shares } => {
-                let made = Board::new(day, self.days, shares);
-                Ok(self.set_board(which, made))
+                Ok(Answer::from(self.make_board(which, day, shares)))
             }
             Command::Quote {
                 which,
                 provider,
                 line,
                 figure,
-            } => self.quote(which, provider, line, figure),
+            } => {
+                let outcome = self
+                    .board_mut(which)?
+                    .quote(provider as usize, line as usize, figure);
+                Ok(Answer::from(outcome))
+            }
             Command::Unquote {
                 which,
                 provider,
                 line,
-            } => self.unquote(which, provider, line),
+            } => {
+                let outcome = self
+                    .board_mut(which)?
+                    .unquote(provider as usize, line as usize);
+                Ok(Answer::from(outcome))
+            }
             Command::Source { pile } => self.choose(pile),
             Command::Page => self.page(),
         }
     }
 
-    fn set_days(&mut self, made: Result<DayTable, SourceFault>) -> Answer
-        ensures answer { result ≡ answer_to (refusal_of told_source made) }
-        ensures after { self.new ≡ with_days made self.old }
+    fn set_days(&mut self, days: [u32; LINES]) -> Result<(), SourceFault>
+        ensures { DaysSet days self.old self.new result }
     {
-        match made {
-            Ok(days) => {
-                self.days = days;
-                Answer::Done
-            }
-            Err(fault) => Answer::Refused(fault.told()),
-        }
+        self.days = DayTable::new(days)?;
+        Ok(())
     }
 
-    fn set_board(&mut self, which: Which, made: Result<Board, SourceFault>) -> Answer
-        ensures answer { result ≡ answer_to (refusal_of told_source made) }
-        ensures after { self.new ≡ with_board which made self.old }
-    {
-        match made {
-            Ok(board) => {
-                match which {
-                    Which::Today => self.today = Some(board),
-                    Which::Yesterday => self.yesterday = Some(board),
-                }
-                Answer::Done
-            }
-            Err(fault) => Answer::Refused(fault.told()),
-        }
-    }
-
-    fn quote(
+    fn make_board(
         &mut self,
         which: Which,
-        provider: u32,
-        line: u32,
-        figure: i32,
-    ) -> Result<Answer, Complaint>
-        ensures answer { result ≡ answer_on which (board_of which self.old) (first_failing (quoting provider line figure)) }
-        ensures board { Called (first_failing (quoting provider line figure)) (board_of which self.old) (board_of which self.new) provider line (Some figure) }
-        ensures beside { Beside which self.old self.new }
+        day: u32,
+        shares: [u32; PROVIDERS],
+    ) -> Result<(), SourceFault>
+        ensures { BoardMade which day shares self.old self.new result }
     {
+        let board = Some(Board::new(day, self.days, shares)?);
         match which {
-            Which::Today => quote_on(&mut self.today, which, provider, line, figure),
-            Which::Yesterday => quote_on(&mut self.yesterday, which, provider, line, figure),
+            Which::Today => self.today = board,
+            Which::Yesterday => self.yesterday = board,
         }
-    }
-
-    fn unquote(&mut self, which: Which, provider: u32, line: u32) -> Result<Answer, Complaint>
-        ensures answer { result ≡ answer_on which (board_of which self.old) (first_failing (unquoting provider line)) }
-        ensures board { Called (first_failing (unquoting provider line)) (board_of which self.old) (board_of which self.new) provider line None }
-        ensures beside { Beside which self.old self.new }
-    {
-        match which {
-            Which::Today => unquote_on(&mut self.today, which, provider, line),
-            Which::Yesterday => unquote_on(&mut self.yesterday, which, provider, line),
-        }
+        Ok(())
     }
 
     fn choose(&mut self, pile: Pile) -> Result<Answer, Complaint>
@@ -140,10 +122,8 @@ impl Market {
     fn page(&self) -> Result<Answer, Complaint>
         ensures { Paged self.now.pile self.now result }
     {
-        match self.pile {
-            Some(pile) => Ok(Answer::Page(self.shown(pile)?)),
-            None => Err(Complaint::NoSourceChosen),
-        }
+        let pile = self.pile.ok_or(Complaint::NoSourceChosen)?;
+        Ok(Answer::Page(self.shown(pile)?))
     }
 
     // The page of a source that is made so.
@@ -169,44 +149,24 @@ impl Market {
         };
         board.as_ref().ok_or(Complaint::BoardNotMade { which })
     }
-}
 
-fn quote_on(
-    board: &mut Option<Board>,
-    which: Which,
-    provider: u32,
-    line: u32,
-    figure: i32,
-) -> Result<Answer, Complaint>
-    ensures answer { result ≡ answer_on which board.old (first_failing (quoting provider line figure)) }
-    ensures board { Called (first_failing (quoting provider line figure)) board.old board.new provider line (Some figure) }
-{
-    match board.as_mut() {
-        Some(board) => Ok(told(board.quote(provider as usize, line as usize, figure))),
-        None => Err(Complaint::BoardNotMade { which }),
+    fn board_mut(&mut self, which: Which) -> Result<&mut Board, Complaint>
+        ensures* writes_back { sem 𝓛 (LendsBoard which self.entry result) }
+        ensures value { MatchResult result (λ b. board_of which self.old ≡ Some b.now) (λ c. (board_of which self.old ≡ None) × (c ≡ BoardNotMade which)) }
+    {
+        match self.find_mut(which) {
+            Some(board) => Ok(board),
+            None => Err(Complaint::BoardNotMade { which }),
+        }
     }
-}
 
-fn unquote_on(
-    board: &mut Option<Board>,
-    which: Which,
-    provider: u32,
-    line: u32,
-) -> Result<Answer, Complaint>
-    ensures answer { result ≡ answer_on which board.old (first_failing (unquoting provider line)) }
-    ensures board { Called (first_failing (unquoting provider line)) board.old board.new provider line None }
-{
-    match board.as_mut() {
-        Some(board) => Ok(told(board.unquote(provider as usize, line as usize))),
-        None => Err(Complaint::BoardNotMade { which }),
-    }
-}
-
-fn told(outcome: Result<(), SourceFault>) -> Answer
-    ensures { result ≡ answer_to (refusal_of told_source outcome) }
-{
-    match outcome {
-        Ok(()) => Answer::Done,
-        Err(fault) => Answer::Refused(fault.told()),
+    fn find_mut(&mut self, which: Which) -> Option<&mut Board>
+        ensures* writes_back { sem 𝓛 (LendsFound which self.entry result) }
+        ensures value { option_copied_mut result ≡ board_of which self.old }
+    {
+        match which {
+            Which::Today => self.today.as_mut(),
+            Which::Yesterday => self.yesterday.as_mut(),
+        }
     }
 }

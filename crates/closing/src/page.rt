@@ -4,7 +4,7 @@ ghost use Rattle.closing.specs.Pages.{RowsOf, filled_page};
 use days::lines::LINES;
 use layers::gap::Gap;
 use sources::source::QuoteSource;
-use std::fmt;
+use std::{array, fmt};
 
 #[derive(Clone, Copy)]
 pub(crate) struct Page {
@@ -34,16 +34,10 @@ impl Page {
     fn of<S: QuoteSource>(source: &S) -> Page
         ensures { RowsOf (S.page source.now) result }
     {
-        let mut rows = [Row {
-            day: 0,
-            figure: None,
-        }; LINES];
-        for line in 0..LINES {
-            rows[line] = Row {
-                day: source.day(line),
-                figure: source.figure(line),
-            };
-        }
+        let rows = array::from_fn(|line| Row {
+            day: source.day(line),
+            figure: source.figure(line),
+        });
         Page {
             valuation: source.valuation_day(),
             rows,
@@ -55,8 +49,7 @@ impl fmt::Display for Page {
     fn fmt<W: fmt::Write>(&self, f: &mut fmt::Formatter<W>) -> fmt::Result {
         let valuation = self.valuation;
         write!(f, "day {valuation}")?;
-        for line in 0..LINES {
-            let row = self.rows[line];
+        for (line, row) in self.rows.iter().enumerate() {
             write!(f, "\n  line {line} {row}")?;
         }
         Ok(())

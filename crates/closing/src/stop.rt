@@ -35,3 +35,7 @@ impl fmt::Display for Stop {
         }
     }
 }
+
+pub(crate) fn written<T>(outcome: io::Result<T>) -> Result<T, Stop> {
+    outcome.map_err(|why| Stop::Unwritable { why })
+}

@@ -1,4 +1,3 @@
-pub mod Tables
 pub mod Rules
 pub mod Ranges
 pub mod Asked

@@ -1,8 +1,8 @@
 -- A line's bounds are the sentences of the lawful-day rule about it. Assumes nothing.
-use Rattle.std.proofs.Common.{◌≡◌, ℕ, zero, suc, ◌+◌, ◌-◌, ◌<◌, ◌≤◌, min, Bool, true, ◌&&◌, eqb, ltb, leb, List, Decides, sym, refl, ap, subst, inl, inr, ⊎_elim, arith}
+use Rattle.std.proofs.Common.{◌≡◌, ℕ, zero, suc, ◌+◌, ◌-◌, ◌<◌, ◌≤◌, min, Bool, true, ◌&&◌, eqb, ltb, leb, List, Some, None, Option, Decides, sym, refl, ap, subst, inl, inr, ⊎_elim, arith, MatchOption}
 use Rattle.std.proofs.lemmas.Bool.{cond_both, cases_lt, eqb-true, eqb-false, ltb-false}
 use Rattle.std.proofs.lemmas.Bool.Decides.{Decides-and, Decides-below_and, nat_tests}
-use Rattle.days.specs.Days.{day, Follows, Reached, Ruled, Lawful}
+use Rattle.days.specs.Days.{day, Follows, Reached, Ruled, Lawful, Breach}
 use Rattle.days.specs.Bounds.{least, most, Bounded, bounded}
 
 module _ (d : List ℕ) (k : ℕ) where
@@ -91,3 +91,10 @@ bounded_from_test d e = (Decides-below_and (bounded d) (Bounded d) (bounded_belo
 
 pub lawful_from_bounded : (d : List ℕ) → ((k : ℕ) → k < 29 → Bounded d k) → Lawful d
 lawful_from_bounded d b k h = ruled_from_bounded d k (b k h)
+
+-- what looking through the lines in their order finds
+pub breach_found : (d : List ℕ) (o : Option ℕ) →
+    MatchOption o ((k : ℕ) → 0 ≤ k → k < 29 → Bounded d k) (λ i. (0 ≤ i) × (i < 29) × (Bounded d i → ⊥) × ((k : ℕ) → 0 ≤ k → k < i → Bounded d k)) →
+    MatchOption o (Lawful d) (Breach d)
+breach_found d None h = lawful_from_bounded d (λ k. h k (omega arith))
+breach_found d (Some i) h = record { place = h.1; fails = λ r. h.2 (bounded_from_ruled d i h.1 r); before = λ k l. ruled_from_bounded d k (h.3 k (omega arith) l) }

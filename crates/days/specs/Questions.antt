@@ -39,3 +39,7 @@ ToldInOrder = (qs : List Question) → MatchOption (first_failing qs) (AllPass q
 abbrev pub refusal_of : {T E : Type 0} → (E → Refusal) → Result T E → Option Refusal
 refusal_of told (Ok x) = None
 refusal_of told (Err f) = Some (told f)
+
+-- the fault f tells the refusal r, and no other fault does
+abbrev pub Tells : {F : Type 0} → (F → Refusal) → F → Refusal → Type 0
+Tells {F} told f r = (r ≡ told f) × ((g : F) → told g ≡ r → g ≡ f)

@@ -1,7 +1,6 @@
 // Why a quote source, or a day table by itself, refuses a call.
-ghost use Rattle.std.specs.Prelude.{◌≡◌};
+ghost use Rattle.days.specs.Questions.{Tells};
 ghost use Rattle.days.specs.Told.{told_source};
-ghost use Rattle.days.specs.declared.fault.SourceFault.{SourceFault as Fault};
 
 use crate::refusal::{Layer, Refusal};
 
@@ -21,13 +20,12 @@ pub enum SourceFault {
     ValuationDayTooLate,
 }
 
-impl SourceFault {
+impl From<SourceFault> for Refusal {
     // Number, layer and place; no two faults tell the same.
-    pub fn told(&self) -> Refusal
-        ensures answer { result ≡ told_source self.now }
-        ensures apart { (f : Fault) → told_source f ≡ result → f ≡ self.now }
-    {
-        let (number, place) = match *self {
+    ghost from_gives = { Tells told_source };
+
+    fn from(fault: SourceFault) -> Refusal {
+        let (number, place) = match fault {
             SourceFault::UnlawfulDay { line } => (15, line),
             SourceFault::NoProvider { provider } => (21, provider),
             SourceFault::NoLine { line } => (22, line),

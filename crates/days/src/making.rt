@@ -1,8 +1,8 @@
 // How a day table is made and asked.
-ghost use Rattle.std.specs.Prelude.{◌≡◌, ◌<◌, Decides};
-ghost use Rattle.days.specs.Days.{day, Lawful, blank_days};
+ghost use Rattle.std.specs.Prelude.{◌≡◌, ◌<◌, Decides, MatchOption};
+ghost use Rattle.days.specs.Days.{day, Lawful, Breach, blank_days};
 ghost use Rattle.days.specs.Tabled.{Tabled};
-ghost use Rattle.days.specs.Bounds.{least, most, Bounded};
+ghost use Rattle.days.specs.Bounds.{Bounded};
 
 use crate::fault::SourceFault;
 use crate::lines::LINES;
@@ -13,42 +13,32 @@ const BLANK_DAYS: [u32; 29] = [
     180, 210, 240, 270, 300, 330, 360,
 ];
 
-// The least day that the rule allows a line, given the other days.
-fn least_day(days: &[u32; 29], line: usize) -> u64
-    requires { line < 29 }
-    ensures { result ≡ least days.now line }
-{
-    match line {
-        0 => days[2] as u64,
-        1 => 1,
-        2 => days[1] as u64 + 1,
-        3 => days[2] as u64 + 1,
-        8 => days[2] as u64 + 1,
-        16 => 0,
-        17 => 1,
-        _ => days[line - 1] as u64 + 1,
-    }
-}
-
-// The greatest day that the rule allows a line, given the other days.
-fn most_day(days: &[u32; 29], line: usize) -> u64
-    requires { line < 29 }
-    ensures { result ≡ most days.now line }
-{
-    match line {
-        0 => (days[2] as u64).min(600),
-        1..8 => 600,
-        16 => 0,
-        _ => (days[7] as u64).min(600),
-    }
-}
-
+// Does the rule allow the line its day, given the other days?
 fn is_bounded(days: &[u32; 29], line: usize) -> bool
     requires { line < 29 }
     ensures { Decides result (Bounded days.now line) }
 {
-    let day = days[line] as u64;
-    least_day(days, line) <= day && day <= most_day(days, line)
+    let day = |line: usize| u64::from(days[line]);
+    let reach = day(7).min(600);
+    let (least, most) = match line {
+        0 => (day(2), day(2).min(600)),
+        1 => (1, 600),
+        2 => (day(1) + 1, 600),
+        3 => (day(2) + 1, 600),
+        4..8 => (day(line - 1) + 1, 600),
+        8 => (day(2) + 1, reach),
+        16 => (0, 0),
+        17 => (1, reach),
+        _ => (day(line - 1) + 1, reach),
+    };
+    least <= day(line) && day(line) <= most
+}
+
+// The lowest line in breach of the lawful-day rule, if there is one.
+fn lowest_breach(days: &[u32; 29]) -> Option<usize>
+    ensures { MatchOption result (Lawful days.now) (Breach days.now) }
+{
+    (0..LINES).find(|line| !is_bounded(days, *line))
 }
 
 impl DayTable {
@@ -56,12 +46,10 @@ impl DayTable {
     pub fn new(days: [u32; 29]) -> Result<DayTable, SourceFault>
         ensures { Tabled days result }
     {
-        for line in 0..LINES {
-            if !is_bounded(&days, line) {
-                return Err(SourceFault::UnlawfulDay { line });
-            }
+        match lowest_breach(&days) {
+            Some(line) => Err(SourceFault::UnlawfulDay { line }),
+            None => Ok(DayTable { days }),
         }
-        Ok(DayTable { days })
     }
 
     // The blank page's days.
@@ -77,6 +65,6 @@ impl DayTable {
         ensures answer { result ≡ day self.now.days line }
         ensures lawful { Lawful self.now.days }
     {
-        if line < LINES { self.days[line] } else { 0 }
+        self.days.get(line).copied().unwrap_or(0)
     }
 }

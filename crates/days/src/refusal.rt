@@ -1,7 +1,9 @@
 // What a refused call tells: a number, the layer that refuses, and a place.
-ghost use Rattle.std.specs.Prelude.{◌≡◌};
-ghost use Rattle.days.specs.Layers.{name_of};
+ghost use Rattle.std.specs.Prelude.{◌≡◌, Some};
+ghost use Rattle.days.specs.Layers.{name_of, text_of};
 ghost use Rattle.days.specs.Questions.{ToldInOrder};
+
+use std::fmt;
 
 #[derive(Clone, Copy)]
 pub enum Layer {
@@ -31,6 +33,27 @@ impl Layer {
             Layer::Contract => "contract",
             Layer::Book => "book",
         }
+    }
+}
+
+impl fmt::Display for Layer {
+    ghost output = { λ l. Some (name_of l) };
+
+    fn fmt<W: fmt::Write>(&self, f: &mut fmt::Formatter<W>) -> fmt::Result {
+        f.write_str(self.name())
+    }
+}
+
+impl fmt::Display for Refusal {
+    ghost output = { λ r. Some (text_of r) };
+
+    fn fmt<W: fmt::Write>(&self, f: &mut fmt::Formatter<W>) -> fmt::Result {
+        let Refusal {
+            number,
+            layer,
+            place,
+        } = *self;
+        write!(f, "{number} {layer} {place}")
     }
 }
 

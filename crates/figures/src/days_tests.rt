@@ -1,4 +1,5 @@
 // Day tables: a breach of each sentence of the rule, told at its line.
+use crate::told::told;
 use days::table::DayTable;
 
 const BLANK: [u32; 29] = [
@@ -6,48 +7,45 @@ const BLANK: [u32; 29] = [
     180, 210, 240, 270, 300, 330, 360,
 ];
 
-// A line of the blank page's table put to another day, and the line that is then told; 29 for none.
-const CHANGES: [(usize, u32, usize); 27] = [
-    (0, 1, 0),
-    (0, 3, 0),
-    (1, 0, 1),
-    (1, 2, 2),
-    (2, 1, 0),
-    (2, 9, 0),
-    (3, 2, 3),
-    (3, 3, 29),
-    (3, 183, 4),
-    (4, 92, 4),
-    (7, 601, 7),
-    (7, 600, 29),
-    (7, 549, 15),
-    (7, 4_294_967_295, 7),
-    (8, 2, 8),
-    (8, 3, 29),
-    (8, 32, 9),
-    (15, 551, 15),
-    (15, 367, 15),
-    (16, 1, 16),
-    (17, 0, 17),
-    (17, 1, 29),
-    (17, 60, 18),
-    (18, 30, 18),
-    (28, 330, 28),
-    (28, 550, 29),
-    (28, 551, 28),
+// A line of the blank page's table put to another day, and the line that is then told, if one is.
+const CHANGES: [(usize, u32, Option<usize>); 27] = [
+    (0, 1, Some(0)),
+    (0, 3, Some(0)),
+    (1, 0, Some(1)),
+    (1, 2, Some(2)),
+    (2, 1, Some(0)),
+    (2, 9, Some(0)),
+    (3, 2, Some(3)),
+    (3, 3, None),
+    (3, 183, Some(4)),
+    (4, 92, Some(4)),
+    (7, 601, Some(7)),
+    (7, 600, None),
+    (7, 549, Some(15)),
+    (7, 4_294_967_295, Some(7)),
+    (8, 2, Some(8)),
+    (8, 3, None),
+    (8, 32, Some(9)),
+    (15, 551, Some(15)),
+    (15, 367, Some(15)),
+    (16, 1, Some(16)),
+    (17, 0, Some(17)),
+    (17, 1, None),
+    (17, 60, Some(18)),
+    (18, 30, Some(18)),
+    (28, 330, Some(28)),
+    (28, 550, None),
+    (28, 551, Some(28)),
 ];
 
-// The line that a table of these days is refused at; 29 where it is made.
-fn breach(days: [u32; 29]) -> usize {
-    match DayTable::new(days) {
-        Ok(_) => 29,
-        Err(fault) => fault.told().place,
-    }
+// The line that a table of these days is refused at; none where it is made.
+fn breach(days: [u32; 29]) -> Option<usize> {
+    told(DayTable::new(days)).map(|(_, place)| place)
 }
 
 #[test]
 fn each_sentence_is_told_at_its_line(rt: HostRuntime) {
-    assert_eq!(rt; breach(BLANK), 29);
+    assert_eq!(rt; breach(BLANK), None);
     for (line, day, expected) in CHANGES {
         let mut days = BLANK;
         if line < 29 {
@@ -62,11 +60,11 @@ fn the_lowest_breach_is_told(rt: HostRuntime) {
     let mut days = BLANK;
     days[28] = 0;
     days[17] = 0;
-    assert_eq!(rt; breach(days), 17);
+    assert_eq!(rt; breach(days), Some(17));
     days[9] = 9;
-    assert_eq!(rt; breach(days), 9);
-    assert_eq!(rt; breach([0; 29]), 1);
-    assert_eq!(rt; breach([601; 29]), 0);
+    assert_eq!(rt; breach(days), Some(9));
+    assert_eq!(rt; breach([0; 29]), Some(1));
+    assert_eq!(rt; breach([601; 29]), Some(0));
 }
 
 #[test]

@@ -9,4 +9,6 @@ mod days_tests;
 mod piles_tests;
 #[cfg(test)]
 mod sheets_tests;
+#[cfg(test)]
+mod told;
 pub mod worked;

@@ -7,30 +7,24 @@ use sources::source::QuoteSource;
 use std::process::Abort;
 use std::test::Fail;
 
-const NOTHING: i32 = i32::MIN;
-
-// A board of one provider with these forward points, lines 8 to 15; none where there is NOTHING.
-fn points(valuation: u32, figures: [i32; 8]) -> Result<Board, Fail> {
-    let Ok(mut board) = Board::new(valuation, DayTable::blank(), [1, 0, 0, 0, 0, 0, 0, 0]) else {
-        return Err(Fail::new("a board was refused"));
-    };
+// A board of one provider with these forward points, lines 8 to 15.
+fn points(valuation: u32, figures: [Option<i32>; 8]) -> Result<Board, Fail> {
+    let mut board = Board::new(valuation, DayTable::blank(), [1, 0, 0, 0, 0, 0, 0, 0]).map_err(
+        |_| Fail::new("a board was refused"),
+    )?;
     for (i, figure) in figures.iter().enumerate() {
-        if *figure != NOTHING {
-            let Ok(()) = board.quote(0, 8 + i, *figure) else {
-                return Err(Fail::new("a quote was refused"));
-            };
+        if let Some(figure) = figure {
+            board
+                .quote(0, 8 + i, *figure)
+                .map_err(|_| Fail::new("a quote was refused"))?;
         }
     }
     Ok(board)
 }
 
-fn check_points<S: QuoteSource>(rt: &impl Abort, s: &S, expected: [i32; 8]) {
+fn check_points<S: QuoteSource>(rt: &impl Abort, s: &S, expected: [Option<i32>; 8]) {
     for (i, figure) in expected.iter().enumerate() {
-        if *figure == NOTHING {
-            assert_eq!(rt; s.figure(8 + i), None);
-        } else {
-            assert_eq!(rt; s.figure(8 + i), Some(*figure));
-        }
+        assert_eq!(rt; s.figure(8 + i), *figure);
     }
 }
 
@@ -38,10 +32,23 @@ fn check_points<S: QuoteSource>(rt: &impl Abort, s: &S, expected: [i32; 8]) {
 fn gap_draws_straight_lines(rt: HostRuntime) -> Result<(), Fail> {
     let today = points(
         5,
-        [NOTHING, -1, NOTHING, -2, NOTHING, NOTHING, NOTHING, 100],
+        [None, Some(-1), None, Some(-2), None, None, None, Some(100)],
     )?;
     let gap = Gap::over(&today);
-    check_points(&rt, &gap, [NOTHING, -1, -2, -2, 18, 38, 59, 100]);
+    check_points(
+        &rt,
+        &gap,
+        [
+            None,
+            Some(-1),
+            Some(-2),
+            Some(-2),
+            Some(18),
+            Some(38),
+            Some(59),
+            Some(100),
+        ],
+    );
     assert_eq!(rt; gap.figure(16), None);
     assert_eq!(rt; gap.figure(29), None);
     assert_eq!(rt; gap.day(10), 62);
@@ -51,12 +58,7 @@ fn gap_draws_straight_lines(rt: HostRuntime) -> Result<(), Fail> {
 
 #[test]
 fn gap_keeps_groups_apart(rt: HostRuntime) -> Result<(), Fail> {
-    let mut today = points(
-        5,
-        [
-            NOTHING, NOTHING, NOTHING, NOTHING, NOTHING, NOTHING, NOTHING, 100,
-        ],
-    )?;
+    let mut today = points(5, [None, None, None, None, None, None, None, Some(100)])?;
     assert!(rt; today.quote(0, 0, 9_000_000).is_ok());
     assert!(rt; today.quote(0, 3, 45_000).is_ok());
     assert!(rt; today.quote(0, 5, 47_000).is_ok());
@@ -65,9 +67,7 @@ fn gap_keeps_groups_apart(rt: HostRuntime) -> Result<(), Fail> {
     check_points(
         &rt,
         &bare,
-        [
-            NOTHING, NOTHING, NOTHING, NOTHING, NOTHING, NOTHING, NOTHING, 100,
-        ],
+        [None, None, None, None, None, None, None, Some(100)],
     );
     assert_eq!(rt; bare.figure(4), None, "rates are never filled");
     assert_eq!(rt; bare.figure(16), None, "line 15 is no neighbour of line 16");
@@ -83,40 +83,101 @@ fn gap_keeps_groups_apart(rt: HostRuntime) -> Result<(), Fail> {
 
 #[test]
 fn reserve_takes_all_points_or_none(rt: HostRuntime) -> Result<(), Fail> {
-    let yesterday = points(4, [1, NOTHING, 3, NOTHING, 5, NOTHING, 7, NOTHING])?;
-    let two = points(5, [10, NOTHING, NOTHING, 40, NOTHING, NOTHING, 70, 80])?;
+    let yesterday = points(
+        4,
+        [Some(1), None, Some(3), None, Some(5), None, Some(7), None],
+    )?;
+    let two = points(
+        5,
+        [
+            Some(10),
+            None,
+            None,
+            Some(40),
+            None,
+            None,
+            Some(70),
+            Some(80),
+        ],
+    )?;
     check_points(
         &rt,
         &Reserve::of(&two, &yesterday),
-        [10, NOTHING, NOTHING, 40, NOTHING, NOTHING, 70, 80],
+        [
+            Some(10),
+            None,
+            None,
+            Some(40),
+            None,
+            None,
+            Some(70),
+            Some(80),
+        ],
     );
-    let first = points(5, [NOTHING, NOTHING, NOTHING, 40, 50, 60, 70, 80])?;
+    let first = points(
+        5,
+        [
+            None,
+            None,
+            None,
+            Some(40),
+            Some(50),
+            Some(60),
+            Some(70),
+            Some(80),
+        ],
+    )?;
     check_points(
         &rt,
         &Reserve::of(&first, &yesterday),
-        [1, NOTHING, 3, NOTHING, 5, NOTHING, 7, NOTHING],
+        [Some(1), None, Some(3), None, Some(5), None, Some(7), None],
     );
-    let last = points(5, [10, 20, 30, 40, 50, NOTHING, NOTHING, NOTHING])?;
+    let last = points(
+        5,
+        [
+            Some(10),
+            Some(20),
+            Some(30),
+            Some(40),
+            Some(50),
+            None,
+            None,
+            None,
+        ],
+    )?;
     let reserve = Reserve::of(&last, &yesterday);
     check_points(
         &rt,
         &reserve,
-        [1, NOTHING, 3, NOTHING, 5, NOTHING, 7, NOTHING],
+        [Some(1), None, Some(3), None, Some(5), None, Some(7), None],
     );
     assert_eq!(rt; reserve.valuation_day(), 5);
-    check_points(&rt, &Gap::over(reserve), [1, 1, 3, 3, 5, 6, 7, NOTHING]);
+    check_points(
+        &rt,
+        &Gap::over(reserve),
+        [
+            Some(1),
+            Some(1),
+            Some(3),
+            Some(3),
+            Some(5),
+            Some(6),
+            Some(7),
+            None,
+        ],
+    );
     Ok(())
 }
 
 #[test]
 fn reserve_lends_an_absent_spot(rt: HostRuntime) -> Result<(), Fail> {
-    let mut yesterday = points(4, [NOTHING; 8])?;
-    let mut today = points(5, [10; 8])?;
+    let mut yesterday = points(4, [None; 8])?;
+    let mut today = points(5, [Some(10); 8])?;
     assert!(rt; yesterday.quote(0, 0, 9_100_000).is_ok());
     assert!(rt; yesterday.quote(0, 16, 380_000_000).is_ok());
     assert_eq!(rt; Reserve::of(&today, &yesterday).figure(0), Some(9_100_000));
     assert_eq!(rt; Reserve::of(&today, &yesterday).figure(16), None);
-    check_points(&rt, &Reserve::of(&today, &yesterday), [10; 8]);
+    check_points(&rt, &Reserve::of(&today, &yesterday), [Some(10); 8]);
     assert!(rt; today.quote(0, 0, 9_000_000).is_ok());
     assert_eq!(rt; Reserve::of(&today, &yesterday).figure(0), Some(9_000_000));
     Ok(())
@@ -124,11 +185,61 @@ fn reserve_lends_an_absent_spot(rt: HostRuntime) -> Result<(), Fail> {
 
 #[test]
 fn the_order_of_layers_matters(rt: HostRuntime) -> Result<(), Fail> {
-    let today = points(5, [10, NOTHING, NOTHING, NOTHING, 90, 100, 110, 120])?;
-    let yesterday = points(4, [1, 2, 3, 4, 5, 6, 7, 8])?;
+    let today = points(
+        5,
+        [
+            Some(10),
+            None,
+            None,
+            None,
+            Some(90),
+            Some(100),
+            Some(110),
+            Some(120),
+        ],
+    )?;
+    let yesterday = points(
+        4,
+        [
+            Some(1),
+            Some(2),
+            Some(3),
+            Some(4),
+            Some(5),
+            Some(6),
+            Some(7),
+            Some(8),
+        ],
+    )?;
     let gap_over: Gap<Reserve<Board, Board>> = Gap::over(Reserve::of(today, yesterday));
     let gap_under: Reserve<Gap<Board>, Board> = Reserve::of(Gap::over(today), yesterday);
-    check_points(&rt, &gap_over, [1, 2, 3, 4, 5, 6, 7, 8]);
-    check_points(&rt, &gap_under, [10, 20, 34, 48, 90, 100, 110, 120]);
+    check_points(
+        &rt,
+        &gap_over,
+        [
+            Some(1),
+            Some(2),
+            Some(3),
+            Some(4),
+            Some(5),
+            Some(6),
+            Some(7),
+            Some(8),
+        ],
+    );
+    check_points(
+        &rt,
+        &gap_under,
+        [
+            Some(10),
+            Some(20),
+            Some(34),
+            Some(48),
+            Some(90),
+            Some(100),
+            Some(110),
+            Some(120),
+        ],
+    );
     Ok(())
 }

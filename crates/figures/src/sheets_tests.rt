@@ -1,5 +1,6 @@
 // Sheets: every refusal at its first, a middle and its last possible place, and what sheets mean.
 // The words were worked out by hand from the format.
+use crate::told::told;
 use boards::board::Board;
 use days::table::DayTable;
 use layers::gap::Gap;
@@ -108,131 +109,125 @@ const BARE: [u32; 31] = [
     0xc000_001e,
 ];
 
-// A word of FULL put in another's place, and the refusal that is then told, by number and place; 0 and 0 for none.
-const CHANGES: [(usize, u32, u32, usize); 45] = [
+// A word of FULL put in another's place, and the refusal that is then told, by number and place, if one is.
+const CHANGES: [(usize, u32, Option<(u32, usize)>); 45] = [
     // a head where the sheet opens
-    (0, 0x0000_4fba, 11, 0),
-    (0, 0xc000_4fba, 11, 0),
+    (0, 0x0000_4fba, Some((11, 0))),
+    (0, 0xc000_4fba, Some((11, 0))),
     // the sheet opens twice
-    (1, 0x8000_0002, 11, 1),
+    (1, 0x8000_0002, Some((11, 1))),
     // a figure before any head
-    (1, 0x4000_0002, 11, 1),
+    (1, 0x4000_0002, Some((11, 1))),
     // closing before line 14's head
-    (29, 0xc000_001d, 11, 29),
+    (29, 0xc000_001d, Some((11, 29))),
     // a second figure of line 13
-    (29, 0x4e00_016f, 11, 29),
+    (29, 0x4e00_016f, Some((11, 29))),
     // closing before line 28's head
-    (57, 0xdc00_0168, 11, 57),
+    (57, 0xdc00_0168, Some((11, 57))),
     // after a head no opening word
-    (58, 0x981b_6ad0, 11, 58),
+    (58, 0x981b_6ad0, Some((11, 58))),
     // a second figure of line 28
-    (59, 0x4000_003b, 11, 59),
+    (59, 0x4000_003b, Some((11, 59))),
     // no head after line 28
-    (59, 0x0000_003b, 11, 59),
+    (59, 0x0000_003b, Some((11, 59))),
     // line 1 where line 0 is due
-    (1, 0x0100_0002, 12, 1),
+    (1, 0x0100_0002, Some((12, 1))),
     // the lowest spare bit
-    (1, 0x0001_0002, 12, 1),
+    (1, 0x0001_0002, Some((12, 1))),
     // the highest spare bit
-    (1, 0x0080_0002, 12, 1),
+    (1, 0x0080_0002, Some((12, 1))),
     // line 13 twice
-    (29, 0x0d00_016f, 12, 29),
+    (29, 0x0d00_016f, Some((12, 29))),
     // a spare bit
-    (29, 0x0e10_016f, 12, 29),
+    (29, 0x0e10_016f, Some((12, 29))),
     // there is no line 29
-    (57, 0x1d00_0168, 12, 57),
+    (57, 0x1d00_0168, Some((12, 57))),
     // nor line 60
-    (57, 0x3c00_0168, 12, 57),
+    (57, 0x3c00_0168, Some((12, 57))),
     // all spare bits
-    (57, 0x1cff_0168, 12, 57),
+    (57, 0x1cff_0168, Some((12, 57))),
     // valuation day 100,001
-    (0, 0x8001_86a1, 13, 0),
+    (0, 0x8001_86a1, Some((13, 0))),
     // the largest load
-    (0, 0xbfff_ffff, 13, 0),
+    (0, 0xbfff_ffff, Some((13, 0))),
     // spot 3,999,999
-    (2, 0x403d_08ff, 13, 2),
+    (2, 0x403d_08ff, Some((13, 2))),
     // spot 20,000,001
-    (2, 0x4131_2d01, 13, 2),
+    (2, 0x4131_2d01, Some((13, 2))),
     // TIP 500,001
-    (4, 0x4007_a121, 13, 4),
+    (4, 0x4007_a121, Some((13, 4))),
     // points 2,000,001
-    (18, 0x403d_0901, 13, 18),
+    (18, 0x403d_0901, Some((13, 18))),
     // the largest load
-    (30, 0x7fff_ffff, 13, 30),
+    (30, 0x7fff_ffff, Some((13, 30))),
     // UF 199,999,999
-    (34, 0x4beb_c1ff, 13, 34),
+    (34, 0x4beb_c1ff, Some((13, 34))),
     // UF 800,000,001
-    (58, 0x6faf_0801, 13, 58),
+    (58, 0x6faf_0801, Some((13, 58))),
     // one word too few counted
-    (59, 0xc000_003a, 13, 59),
+    (59, 0xc000_003a, Some((13, 59))),
     // one too many
-    (59, 0xc000_003c, 13, 59),
+    (59, 0xc000_003c, Some((13, 59))),
     // a count has no spare bits
-    (59, 0xc100_003b, 13, 59),
+    (59, 0xc100_003b, Some((13, 59))),
     // spot not at line 2's day
-    (1, 0x0000_0003, 15, 0),
+    (1, 0x0000_0003, Some((15, 0))),
     // TIP at day 0
-    (3, 0x0100_0000, 15, 1),
+    (3, 0x0100_0000, Some((15, 1))),
     // line 14 at line 13's day
-    (29, 0x0e00_0113, 15, 14),
+    (29, 0x0e00_0113, Some((15, 14))),
     // the largest day
-    (29, 0x0e00_ffff, 15, 14),
+    (29, 0x0e00_ffff, Some((15, 14))),
     // line 28 at line 27's day
-    (57, 0x1c00_014a, 15, 28),
+    (57, 0x1c00_014a, Some((15, 28))),
     // beyond line 7's day
-    (57, 0x1c00_0227, 15, 28),
+    (57, 0x1c00_0227, Some((15, 28))),
     // valuation day 100,000
-    (0, 0x8001_86a0, 0, 0),
+    (0, 0x8001_86a0, None),
     // valuation day 0
-    (0, 0x8000_0000, 0, 0),
+    (0, 0x8000_0000, None),
     // spot 4,000,000
-    (2, 0x403d_0900, 0, 0),
+    (2, 0x403d_0900, None),
     // spot 20,000,000
-    (2, 0x4131_2d00, 0, 0),
+    (2, 0x4131_2d00, None),
     // points -2,000,000
-    (18, 0x4000_0000, 0, 0),
+    (18, 0x4000_0000, None),
     // points 2,000,000
-    (18, 0x403d_0900, 0, 0),
+    (18, 0x403d_0900, None),
     // UF 200,000,000
-    (34, 0x4beb_c200, 0, 0),
+    (34, 0x4beb_c200, None),
     // UF 800,000,000
-    (58, 0x6faf_0800, 0, 0),
+    (58, 0x6faf_0800, None),
     // line 28 at line 7's day
-    (57, 0x1c00_0226, 0, 0),
+    (57, 0x1c00_0226, None),
 ];
 
-// What a sheet's check tells, as number and place; 0 and 0 where it is accepted.
-fn told(words: &[u32]) -> (u32, usize) {
-    match Sheet::of(words).check() {
-        Ok(()) => (0, 0),
-        Err(fault) => {
-            let refusal = fault.told();
-            (refusal.number, refusal.place)
-        }
-    }
+// What a sheet's check tells.
+fn checked(words: &[u32]) -> Option<(u32, usize)> {
+    told(Sheet::of(words).check())
 }
 
 #[test]
-fn a_word_changed_is_told(rt: HostRuntime) {
-    assert_eq!(rt; told(&FULL), (0, 0));
-    assert_eq!(rt; told(&BARE), (0, 0));
-    for (place, word, number, at) in CHANGES {
+fn a_word_changed_is_checked(rt: HostRuntime) {
+    assert_eq!(rt; checked(&FULL), None);
+    assert_eq!(rt; checked(&BARE), None);
+    for (place, word, expected) in CHANGES {
         let mut words = FULL;
         if place < 60 {
             words[place] = word;
         }
-        assert_eq!(rt; told(&words), (number, at));
+        assert_eq!(rt; checked(&words), expected);
     }
 }
 
 #[test]
 fn a_sheet_cut_short_lacks_its_next_word(rt: HostRuntime) {
-    assert_eq!(rt; told(&[]), (11, 0), "an empty sheet");
+    assert_eq!(rt; checked(&[]), Some((11, 0)), "an empty sheet");
     for count in 0..60usize {
-        assert_eq!(rt; told(&FULL[0..count]), (11, count));
+        assert_eq!(rt; checked(&FULL[0..count]), Some((11, count)));
     }
     for count in 0..31usize {
-        assert_eq!(rt; told(&BARE[0..count]), (11, count));
+        assert_eq!(rt; checked(&BARE[0..count]), Some((11, count)));
     }
 }
 
@@ -241,52 +236,56 @@ fn nothing_comes_after_the_closing_word(rt: HostRuntime) -> Result<(), Fail> {
     let mut full = FULL.to_vec(rt.alloc())?;
     full.push(0xc000_003b)?;
     assert_eq!(rt;
-        told(full.as_slice()),
-        (14, 60),
+        checked(full.as_slice()),
+        Some((14, 60)),
         "the last place that there is"
     );
     full.push(0)?;
-    assert_eq!(rt; told(full.as_slice()), (14, 60), "the first word is told");
+    assert_eq!(rt;
+        checked(full.as_slice()),
+        Some((14, 60)),
+        "the first word is told"
+    );
     let mut bare = BARE.to_vec(rt.alloc())?;
     bare.push(0x8000_0000)?;
     assert_eq!(rt;
-        told(bare.as_slice()),
-        (14, 31),
+        checked(bare.as_slice()),
+        Some((14, 31)),
         "the first place that there is"
     );
     let mut half = BARE[0..10].to_vec(rt.alloc())?;
     half.push(0x401e_8020)?;
     half.extend_from_slice(&BARE[10..30])?;
     half.push(0xc000_001f)?;
-    assert_eq!(rt; told(half.as_slice()), (0, 0), "one figure");
+    assert_eq!(rt; checked(half.as_slice()), None, "one figure");
     half.push(0xc000_001f)?;
-    assert_eq!(rt; told(half.as_slice()), (14, 32));
+    assert_eq!(rt; checked(half.as_slice()), Some((14, 32)));
     Ok(())
 }
 
 #[test]
-fn the_first_question_that_fails_is_told(rt: HostRuntime) -> Result<(), Fail> {
+fn the_first_question_that_fails_is_checked(rt: HostRuntime) -> Result<(), Fail> {
     let mut words = FULL.to_vec(rt.alloc())?;
     words.push(0)?;
     assert!(rt; words.len() == 61);
     words[57] = 0x1c00_0000;
-    assert_eq!(rt; told(words.as_slice()), (14, 60), "14 before 15");
+    assert_eq!(rt; checked(words.as_slice()), Some((14, 60)), "14 before 15");
     words[59] = 0xc000_003c;
-    assert_eq!(rt; told(words.as_slice()), (13, 59), "13 before 14");
+    assert_eq!(rt; checked(words.as_slice()), Some((13, 59)), "13 before 14");
     words[58] = 0x7fff_ffff;
-    assert_eq!(rt; told(words.as_slice()), (13, 58), "word by word");
+    assert_eq!(rt; checked(words.as_slice()), Some((13, 58)), "word by word");
     words[57] = 0x5c01_0000;
     assert_eq!(rt;
-        told(words.as_slice()),
-        (11, 57),
+        checked(words.as_slice()),
+        Some((11, 57)),
         "11 before 12 of the same word"
     );
     words[57] = 0x1c01_0000;
-    assert_eq!(rt; told(words.as_slice()), (12, 57));
+    assert_eq!(rt; checked(words.as_slice()), Some((12, 57)));
     words[0] = 0x0001_86a1;
     assert_eq!(rt;
-        told(words.as_slice()),
-        (11, 0),
+        checked(words.as_slice()),
+        Some((11, 0)),
         "11 before 13 of the same word"
     );
     Ok(())
@@ -320,8 +319,8 @@ fn summed(sheet: &Sheet<'_>) -> (u64, u64, i64) {
     for Placed { place, entry } in sheet.entries() {
         let weight = entry.line() as u64 + 1;
         places = places.wrapping_add(weight.wrapping_mul(place as u64));
-        days = days.wrapping_add(weight.wrapping_mul(entry.day() as u64));
-        figures = figures.wrapping_add(entry.figure().unwrap_or(0) as i64);
+        days = days.wrapping_add(weight.wrapping_mul(u64::from(entry.day())));
+        figures = figures.wrapping_add(i64::from(entry.figure().unwrap_or(0)));
     }
     (places, days, figures)
 }

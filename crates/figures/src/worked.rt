@@ -11,15 +11,9 @@ use sources::source::QuoteSource;
 pub fn two_quotes() -> Option<i32>
     ensures { result ≡ Some (pos 9000000) }
 {
-    let Ok(mut board) = Board::new(0, DayTable::blank(), [1, 2, 0, 0, 0, 0, 0, 0]) else {
-        return None;
-    };
-    let Ok(()) = board.quote(0, 0, 9_000_000) else {
-        return None;
-    };
-    let Ok(()) = board.quote(1, 0, 9_000_001) else {
-        return None;
-    };
+    let mut board = Board::new(0, DayTable::blank(), [1, 2, 0, 0, 0, 0, 0, 0]).ok()?;
+    board.quote(0, 0, 9_000_000).ok()?;
+    board.quote(1, 0, 9_000_001).ok()?;
     board.figure(0)
 }
 
@@ -27,15 +21,9 @@ pub fn two_quotes() -> Option<i32>
 pub fn hole_filled() -> Option<i32>
     ensures { result ≡ Some (negsuc 1) }
 {
-    let Ok(mut board) = Board::new(0, DayTable::blank(), [1, 0, 0, 0, 0, 0, 0, 0]) else {
-        return None;
-    };
-    let Ok(()) = board.quote(0, 9, -1) else {
-        return None;
-    };
-    let Ok(()) = board.quote(0, 11, -2) else {
-        return None;
-    };
+    let mut board = Board::new(0, DayTable::blank(), [1, 0, 0, 0, 0, 0, 0, 0]).ok()?;
+    board.quote(0, 9, -1).ok()?;
+    board.quote(0, 11, -2).ok()?;
     Gap::over(board).figure(10)
 }
 

@@ -14,6 +14,7 @@ use crate::fault::SheetFault;
 use crate::reading::Reading;
 use crate::word::{Kind, load_of};
 use days::lines::{LINES, in_range};
+use days::refusal::Refusal;
 use days::table::DayTable;
 use sources::source::LAST_VALUATION_DAY;
 
@@ -128,7 +129,7 @@ fn day_table(days: [u32; 29]) -> Result<DayTable, SheetFault>
     match DayTable::new(days) {
         Ok(table) => Ok(table),
         Err(fault) => Err(SheetFault::UnlawfulDay {
-            line: fault.told().place,
+            line: Refusal::from(fault).place,
         }),
     }
 }

@@ -1,7 +1,6 @@
 // Why a sheet is refused.
-ghost use Rattle.std.specs.Prelude.{◌≡◌};
+ghost use Rattle.days.specs.Questions.{Tells};
 ghost use Rattle.sheets.specs.Told.{told_sheet};
-ghost use Rattle.sheets.specs.declared.fault.SheetFault.{SheetFault as Fault};
 
 use days::refusal::{Layer, Refusal};
 
@@ -19,13 +18,12 @@ pub enum SheetFault {
     UnlawfulDay { line: usize },
 }
 
-impl SheetFault {
+impl From<SheetFault> for Refusal {
     // Number, layer and place; no two faults tell the same.
-    pub fn told(&self) -> Refusal
-        ensures answer { result ≡ told_sheet self.now }
-        ensures apart { (f : Fault) → told_sheet f ≡ result → f ≡ self.now }
-    {
-        let (number, place) = match *self {
+    ghost from_gives = { Tells told_sheet };
+
+    fn from(fault: SheetFault) -> Refusal {
+        let (number, place) = match fault {
             SheetFault::NotDue { word } => (11, word),
             SheetFault::WrongHead { word } => (12, word),
             SheetFault::OutOfRange { word } => (13, word),

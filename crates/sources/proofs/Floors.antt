@@ -1,6 +1,6 @@
 -- A quotient rounded down is one number, and lies where the whole number of times does. Assumes nothing.
-use Rattle.std.proofs.Common.{◌≡◌, ℕ, ◌+◌, ◌*◌, ◌/◌, ◌^◌, ◌<◌, ◌≤◌, ◌⊎◌, ℤ, pos, negsuc, ◌+ℤ◌, ◌*ℤ◌, ◌≤ℤ◌, refl, ap, inl, inr, mul-le-mul_right, mod-lt, suc-mul, add-mul, mul-le-mul_left, mul-add, arith, w32, w64, SFits}
-use borrow.Author.Differences.{up, down, le_out, fits_out}
+use Rattle.std.proofs.Common.{◌≡◌, ℕ, ◌+◌, ◌*◌, ◌/◌, ◌<◌, ◌≤◌, ℤ, pos, negsuc, ◌+ℤ◌, ◌*ℤ◌, ◌≤ℤ◌, ap, mul-le-mul_right, mod-lt, suc-mul, add-mul, mul-le-mul_left, mul-add, arith}
+use borrow.Author.Differences.{up, down, le_out}
 use Rattle.std.proofs.lemmas.Nat.{div-add-mod'}
 use Rattle.std.proofs.lemmas.Int.{ints, by_lt_z}
 use Rattle.sources.specs.Rounding.{Floor, floor_div}
@@ -49,16 +49,3 @@ pub high_more : (hi z x : ℤ) (w s : ℕ) → z ≤ℤ (hi *ℤ pos w) → x �
 high_more hi z x w s h k =
     let m : s * (up x + down hi) ≤ s * (up hi + down x) = mul-le-mul_left s (le_out x hi k) in
     omega (arith, ints, mul-add (up hi) w s, mul-add (down hi) w s, mul-add s (up x) (down hi), mul-add s (up hi) (down x))
-
--- a weighed figure fits 64 bits
-pub weighed_fits : (s : ℕ) (x : ℤ) → s < 2 ^ 32 → SFits w32 x → SFits w64 (pos s *ℤ x)
-weighed_fits s x h f =
-    let b = fits_out w32 x f in
-    let m : s * up x ≤ 4294967295 * up x = mul-le-mul_right (up x) (omega arith) in
-    let n : s * down x ≤ 4294967295 * down x = mul-le-mul_right (down x) (omega arith) in
-    let u = one_sided x in
-    omega (arith, ints)
-  where
-    one_sided : (x : ℤ) → (up x ≡ 0) ⊎ (down x ≡ 0)
-    one_sided (pos n) = inr refl
-    one_sided (negsuc n) = inl refl

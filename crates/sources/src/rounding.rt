@@ -6,7 +6,7 @@ ghost use Rattle.sources.specs.Rounding.{Floor, floor_div};
 pub fn weigh(weight: u32, figure: i32) -> i64
     ensures { result ≡ pos weight *ℤ figure }
 {
-    weight as i64 * figure as i64
+    i64::from(weight) * i64::from(figure)
 }
 
 // The quotient rounded down, towards minus infinity; none by 0.
@@ -14,8 +14,5 @@ pub fn floor_div(z: i64, by: u32) -> Option<i64>
     ensures answer { MatchOption result (by ≡ 0) (λ q. (0 < by) × (q ≡ floor_div z by)) }
     ensures floor { MatchOption result (by ≡ 0) (λ q. Floor z by q) }
 {
-    if by == 0 {
-        return None;
-    }
-    Some(z.div_euclid(by as i64))
+    z.checked_div_euclid(i64::from(by))
 }

@@ -12,4 +12,4 @@ pub returns-in-Err : goal.returns-in-Err
 returns-in-Err c =
     let breach = c.in-Err.ensures in
     breach_told c.args.days breach.0 breach.2 29 0 (omega arith) (omega (arith, breach.2.place))
-    ∙ ap (λ (r : Refusal). Some (refusal 15 Sheet r.place)) (sym (c.told.ensures.answer ∙ breach.1))
+    ∙ ap (λ (r : Refusal). Some (refusal 15 Sheet r.place)) (sym (c.from.ensures.0 ∙ breach.1))

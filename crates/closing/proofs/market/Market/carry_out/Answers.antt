@@ -1,14 +1,16 @@
-use Rattle.std.proofs.Common.{Ok, sym, ap, subst}
-use Rattle.closing.specs.Carried.{Carried}
-use Rattle.journal.specs.declared.command.Command.{Command}
+use Rattle.std.proofs.Common.{Some, None, refl, rules}
+use Rattle.closing.proofs.Called.{called}
 use Rattle.closing.proofs.market.Market.carry_out.Goals as goal
 
 pub returns-in-BlankDays : goal.returns-in-BlankDays
-returns-in-BlankDays c =
-    subst (λ (k : Command). Carried k c.args.self.now c.set_days.new.self (Ok c.set_days.result)) (sym c.in-BlankDays.is)
-    (c.blank.result, c.blank.ensures.days, ap Ok c.set_days.ensures.answer, c.set_days.ensures.after)
+returns-in-BlankDays c = rw c.in-BlankDays.is (c.blank-self.result, c.blank-self.ensures.days, refl, refl)
 
-pub returns-in-Days : goal.returns-in-Days
-returns-in-Days c =
-    subst (λ (k : Command). Carried k c.args.self.now c.set_days-in-Days.new.self (Ok c.set_days-in-Days.result)) (sym c.in-Days.is)
-    (c.new.result, c.new.ensures, ap Ok c.set_days-in-Days.ensures.answer, c.set_days-in-Days.ensures.after)
+pub returns-in_ok-board_mut-in-Quote : goal.returns-in_ok-board_mut-in-Quote
+returns-in_ok-board_mut-in-Quote c =
+    rw c.in-Quote.is (called c.in-Quote.which c.args.self.now c.in_ok-board_mut-in-Quote.field-0.now c.quote-outcome.new.self c.quote-outcome.result _ c.in-Quote.provider c.in-Quote.line (Some c.in-Quote.figure)
+    c.in_ok-board_mut-in-Quote.ensures.value (search rules) (search rules) c.from-in-Quote.result c.from-in-Quote.ensures)
+
+pub returns-in_ok-board_mut-in-Unquote : goal.returns-in_ok-board_mut-in-Unquote
+returns-in_ok-board_mut-in-Unquote c =
+    rw c.in-Unquote.is (called c.in-Unquote.which c.args.self.now c.in_ok-board_mut-in-Unquote.field-0.now c.unquote-outcome.new.self c.unquote-outcome.result _ c.in-Unquote.provider c.in-Unquote.line None
+    c.in_ok-board_mut-in-Unquote.ensures.value c.unquote-outcome.ensures.answer c.unquote-outcome.ensures.board c.from-in-Unquote.result c.from-in-Unquote.ensures)
