@@ -8,13 +8,13 @@ use crate::fault::SourceFault;
 use crate::lines::LINES;
 use crate::table::DayTable;
 
-const BLANK_DAYS: [u32; 29] = [
+const BLANK_DAYS: [u32; LINES] = [
     2, 1, 2, 92, 183, 275, 367, 550, 9, 32, 62, 92, 183, 275, 367, 550, 0, 30, 60, 90, 120, 150,
     180, 210, 240, 270, 300, 330, 360,
 ];
 
 // Does the rule allow the line its day, given the other days?
-fn is_bounded(days: &[u32; 29], line: usize) -> bool
+fn is_bounded(days: &[u32; LINES], line: usize) -> bool
     requires { line < 29 }
     ensures { Decides result (Bounded days.now line) }
 {
@@ -35,7 +35,7 @@ fn is_bounded(days: &[u32; 29], line: usize) -> bool
 }
 
 // The lowest line in breach of the lawful-day rule, if there is one.
-fn lowest_breach(days: &[u32; 29]) -> Option<usize>
+fn lowest_breach(days: &[u32; LINES]) -> Option<usize>
     ensures { MatchOption result (Lawful days.now) (Breach days.now) }
 {
     (0..LINES).find(|line| !is_bounded(days, *line))
@@ -43,7 +43,7 @@ fn lowest_breach(days: &[u32; 29]) -> Option<usize>
 
 impl DayTable {
     // The table of these days, or a refusal at the lowest line in breach of the lawful-day rule.
-    pub fn new(days: [u32; 29]) -> Result<DayTable, SourceFault>
+    pub fn new(days: [u32; LINES]) -> Result<DayTable, SourceFault>
         ensures { Tabled days result }
     {
         match lowest_breach(&days) {

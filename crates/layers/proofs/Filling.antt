@@ -14,7 +14,7 @@ module _ (p : Page) (k : ℕ) where
   over = by_group k None None (bridged p 8 16 k) (bridged p 16 29 k)
 
   -- the figure of a line that is there, of an absent line of a group, and of one of neither
-  at_line : (x : ℤ) → p.figure k ≡ Some x → gap_figure p k ≡ Some x
+  pub at_line : (x : ℤ) → p.figure k ≡ Some x → gap_figure p k ≡ Some x
   unfolding gap_figure
   at_line x e = ap (λ o. option_or o over) e
 
@@ -35,7 +35,7 @@ module _ (p : Page) (k : ℕ) where
       zip_none None = refl
       zip_none (Some n) = refl
 
-  at_apart : p.figure k ≡ None → (k < 8) ⊎ (29 ≤ k) → gap_figure p k ≡ None
+  pub at_apart : p.figure k ≡ None → (k < 8) ⊎ (29 ≤ k) → gap_figure p k ≡ None
   unfolding gap_figure
   at_apart e (inl l) =
       ap (λ o. option_or o over) e ∙ ⊎_elim (λ z. cond-true (eqb k 0) None _ (eq-eqb k 0 (omega arith))) (λ h. rate_of k None None (bridged p 8 16 k) (bridged p 16 29 k) h l) (cases_lt k 1)

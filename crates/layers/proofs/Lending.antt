@@ -1,16 +1,15 @@
 -- The page made by the test is the one page with the reserve, and a sound one. Assumes nothing.
 use Rattle.std.proofs.Common.{◌≡◌, ℕ, ◌+◌, ◌-◌, ◌≤◌, cond, not, ◌&&◌, ◌⊎◌, ℤ, is_some, Some, None, Decides, Option, sym, refl, ap, ◌∙◌, subst, inl, inr, ⊎_elim, arith}
 use Rattle.std.specs.Option.{option_or}
-use Rattle.std.proofs.lemmas.Bool.{cases_lt, cases_Bool, cond-true, cond_both, false≢true}
+use Rattle.std.proofs.lemmas.Bool.{cases_lt, cases_Bool, cond-true, cond_both}
 use Rattle.std.proofs.lemmas.Bool.Decides.{Decides-and, Decides-like, Decides-below_or, not_from_Decides}
 use Rattle.days.proofs.Ranges.{rate_of, points_of, uf_of}
 use Rattle.sources.specs.Page.{Page, Sound}
 use Rattle.layers.specs.Reserve.{Thin, Reserved}
 use Rattle.layers.specs.ReservePage.{absent, gone, thin_among, thin, reserve_figure, reserve_page}
-use Rattle.layers.proofs.Seeking.{clash}
 
 absent_decides : (o : Option ℤ) → Decides (not (is_some o)) (o ≡ None)
-absent_decides (Some x) = (λ e. absurd (false≢true e), λ e. clash (Some x) x refl e)
+absent_decides (Some x) = (λ e. cc, λ e. cc)
 absent_decides None = (λ _. refl, λ _. refl)
 
 module _ (p : Page) where

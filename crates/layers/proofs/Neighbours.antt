@@ -7,7 +7,6 @@ use Rattle.days.proofs.Ranges.{points_of, uf_of}
 use Rattle.sources.specs.Page.{Page, Sound}
 use Rattle.layers.specs.Gap.{straight, Group, Hole, Below, Above, Fills, kept, drawn, bare, apart}
 use Rattle.layers.specs.GapPage.{gap_figure, gap_page}
-use Rattle.layers.proofs.Seeking.{clash}
 use Rattle.layers.proofs.Filling.{fills, fills_is}
 use Rattle.layers.proofs.Slopes.{straight_low, straight_high}
 
@@ -68,8 +67,8 @@ module _ (p : Page) (sound : Sound p) (k : ℕ) where
   filled_ranged o x (drawn from end i j y z h a b e) s =
       let v : straight (day p.days i) y (day p.days j) z (day p.days k) ≡ x = cc in
       subst (InRange k) v (line_ranged i j y z (between from end i j y z h a b))
-  filled_ranged o x (bare from end h n e) s = clash o x s e
-  filled_ranged o x (apart n l e) s = clash o x s e
+  filled_ranged o x (bare from end h n e) s = cc
+  filled_ranged o x (apart n l e) s = cc
 
 pub gap_sound : (p : Page) → Sound p → Sound (gap_page p)
 gap_sound p sound = record {

@@ -1,13 +1,14 @@
 -- Looking from line to line finds the nearest neighbours. Assumes nothing.
-use Rattle.std.proofs.Common.{◌≡◌, ℕ, zero, suc, ◌<◌, ◌≤◌, cond, ltb, ℤ, Some, None, Option, refl, ap, subst, ⊎_elim, arith, MatchOption}
+use Rattle.std.proofs.Common.{◌≡◌, ℕ, zero, suc, ◌<◌, ◌≤◌, cond, ltb, ℤ, Some, None, Option, refl, ap, subst, true, ◌+◌, ◌-◌, ⊎_elim, arith, MatchOption, IsSomeAnd}
 use Rattle.std.specs.Option.{option_map, option_or}
 use Rattle.std.proofs.lemmas.Bool.{cases_lt, cond_both, ltb-true, ltb-false}
+use Rattle.days.specs.Days.{day}
 use Rattle.sources.specs.Page.{Page}
+use Rattle.std.specs.Iterator.Runs.{Run, ItemsCountUp, ItemsCountDown, AllItems, AllItemsBelow}
+use Rattle.std.proofs.lemmas.Grind.{common_steps}
+use Rattle.layers.specs.declared.gap.Dated.{Dated}
 use Rattle.layers.specs.Gap.{Below, Above, NoneBelow, NoneAbove}
 use Rattle.layers.specs.GapPage.{seen, below, above}
-
-pub clash : {A : Type 0} (o : Option ℤ) (x : ℤ) → o ≡ Some x → o ≡ None → A
-clash o x e f = absurd (let z : ◌≡◌ {A = ℕ} 0 1 = cc in omega arith)
 
 -- one line more
 last : (P : ℕ → Type 0) (i k : ℕ) → (i < k → P i) → P k → i ≤ k → P i
@@ -62,24 +63,24 @@ module _ (p : Page) where
       λ t. Some (e t, v t)
 
   only_below : (from k j : ℕ) (y : ℤ) (o : Option (ℕ × ℤ)) → SoughtBelow from k o → Below p from k j y → o ≡ Some (j, y)
-  only_below from k j y None none b = clash (p.figure j) y b.there (none j b.within b.under)
+  only_below from k j y None none b = cc (b.there, none j b.within b.under)
   only_below from k j y (Some n) a b = place_one n.0 j n.1 y
-      (λ l. clash (p.figure j) y b.there (a.nearest j l b.under))
-      (λ l. clash (p.figure n.0) n.1 a.there (b.nearest n.0 l a.under)) a.there b.there
+      (λ l. cc (b.there, a.nearest j l b.under))
+      (λ l. cc (a.there, b.nearest n.0 l a.under)) a.there b.there
 
   only_above : (end k j : ℕ) (y : ℤ) (o : Option (ℕ × ℤ)) → SoughtAbove end k o → Above p end k j y → o ≡ Some (j, y)
-  only_above end k j y None none b = clash (p.figure j) y b.there (none j b.over b.within)
+  only_above end k j y None none b = cc (b.there, none j b.over b.within)
   only_above end k j y (Some n) a b = place_one n.0 j n.1 y
-      (λ l. clash (p.figure n.0) n.1 a.there (b.nearest n.0 a.over l))
-      (λ l. clash (p.figure j) y b.there (a.nearest j b.over l)) a.there b.there
+      (λ l. cc (a.there, b.nearest n.0 a.over l))
+      (λ l. cc (b.there, a.nearest j b.over l)) a.there b.there
 
   none_below : (from k : ℕ) (o : Option (ℕ × ℤ)) → SoughtBelow from k o → NoneBelow p from k → o ≡ None
   none_below from k None a n = refl
-  none_below from k (Some m) a n = clash (p.figure m.0) m.1 a.there (n m.0 a.within a.under)
+  none_below from k (Some m) a n = cc (a.there, n m.0 a.within a.under)
 
   none_above : (end k : ℕ) (o : Option (ℕ × ℤ)) → SoughtAbove end k o → NoneAbove p end k → o ≡ None
   none_above end k None a n = refl
-  none_above end k (Some m) a n = clash (p.figure m.0) m.1 a.there (n m.0 a.over a.within)
+  none_above end k (Some m) a n = cc (a.there, n m.0 a.over a.within)
 
   pub below_is : (from k j : ℕ) (y : ℤ) → Below p from k j y → below p from k ≡ Some (j, y)
   below_is from k j y = only_below from k j y (below p from k) (seek_below from k)
@@ -92,3 +93,36 @@ module _ (p : Page) where
 
   pub above_none : (end k : ℕ) → NoneAbove p end k → above p end k ≡ None
   above_none end k = none_above end k (above p end k) (seek_above end k)
+
+-- a run of calls over lines that ends at the first of them with a figure, from line k down to line `from` or from the line after k up to before line `end`
+module _ (p : Page) {S : Type 0} {steps : S → Option ℕ → S → Type 0} (run : Run steps) (k : ℕ) where
+  abbrev Bare : ℕ → Type 0
+  Bare i = p.figure i ≡ None
+
+  abbrev Shows : Dated → ℕ → Type 0
+  Shows n j = (p.figure j ≡ Some n.figure) × (n.day ≡ day p.days j)
+
+  -- no line of the run has a figure; its last line alone has one
+  abbrev pub NoneShown : Type 0
+  NoneShown = (run.whole ≡ true) × AllItems run Bare
+
+  abbrev pub LastShown : Dated → Type 0
+  LastShown n = (0 < run.len) × AllItemsBelow run (run.len - 1) Bare × IsSomeAnd (run.at (run.len - 1)) (Shows n)
+
+  pub found_below : (from : ℕ) (r : Option Dated) → ItemsCountDown run from k → (r ≡ None → NoneShown) → ((n : Dated) → r ≡ Some n → LastShown n)
+      → MatchOption r (NoneBelow p from k) (λ n. (j : ℕ) × Below p from k j n.figure × (n.day ≡ day p.days j))
+  found_below from None down none last = λ i l h. grind (arith, common_steps, none refl, down.3 (k - 1 - i), (none refl).1 (k - 1 - i))
+  found_below from (Some n) down none last =
+      let f = last n refl in
+      let at : run.at (run.len - 1) ≡ Some (k - run.len) = grind (arith, common_steps, down.3 (run.len - 1)) in
+      let s : Shows n (k - run.len) = grind (arith, common_steps, at, f.2) in
+      (k - run.len, record { within = omega (arith, down.0); under = omega (arith, f.0, down.0); there = s.0; nearest = λ i l h. grind (arith, common_steps, down.3 (k - 1 - i), f.1 (k - 1 - i)) }, s.1)
+
+  pub found_above : (end : ℕ) (r : Option Dated) → ItemsCountUp run (k + 1) end → (r ≡ None → NoneShown) → ((n : Dated) → r ≡ Some n → LastShown n)
+      → MatchOption r (NoneAbove p end k) (λ n. (j : ℕ) × Above p end k j n.figure × (n.day ≡ day p.days j))
+  found_above end None up none last = λ i l h. grind (arith, common_steps, none refl, up.3 (i - (k + 1)), (none refl).1 (i - (k + 1)))
+  found_above end (Some n) up none last =
+      let f = last n refl in
+      let at : run.at (run.len - 1) ≡ Some (k + run.len) = grind (arith, common_steps, f.0, up.3 (run.len - 1)) in
+      let s : Shows n (k + run.len) = grind (arith, common_steps, at, f.2) in
+      (k + run.len, record { over = omega (arith, f.0); within = omega (arith, f.0, up.0); there = s.0; nearest = λ i l h. grind (arith, common_steps, up.3 (i - (k + 1)), f.1 (i - (k + 1))) }, s.1)

@@ -1,19 +1,14 @@
 // A layer that fills gaps by straight lines.
-ghost use Rattle.std.specs.Prelude.{◌≡◌, ◌<◌, ◌≤◌, Some, None, MatchOption};
+ghost use Rattle.std.specs.Prelude.{◌≡◌, ℕ, ◌<◌, ◌≤◌, Some, None, MatchOption};
+ghost use Rattle.days.specs.Days.{day};
 ghost use Rattle.sources.specs.Page.{Page};
-ghost use Rattle.layers.specs.Gap.{straight, Hole, Below, Above, NoneBelow, NoneAbove, Fills, Gapped};
-ghost use Rattle.layers.specs.GapPage.{gap_page};
+ghost use Rattle.layers.specs.Gap.{straight, Hole, Below, Above, NoneBelow, NoneAbove, Gapped};
+ghost use Rattle.layers.specs.GapPage.{gap_figure, gap_page};
 
 use days::table::DayTable;
 use sources::rounding::{floor_div, weigh};
 use sources::source::QuoteSource;
-
-// A present line and its figure.
-#[derive(Clone, Copy)]
-struct Seen {
-    line: usize,
-    figure: i32,
-}
+use std::ops::Range;
 
 // A figure at its day.
 #[derive(Clone, Copy)]
@@ -24,7 +19,8 @@ struct Dated {
 
 // The straight line through two figures, at the lower one's day or between theirs.
 fn straight_at(low: Dated, high: Dated, day: u32) -> Option<i32>
-    requires { (low.day ≤ day) × (day < high.day) }
+    requires after { low.day ≤ day }
+    requires before { day < high.day }
     ensures { result ≡ Some (straight low.day low.figure high.day high.figure day) }
 {
     let sum = weigh(high.day - day, low.figure) + weigh(day - low.day, high.figure);
@@ -32,57 +28,50 @@ fn straight_at(low: Dated, high: Dated, day: u32) -> Option<i32>
     Some(figure as i32)
 }
 
-// The nearest present line below a line, from line `from` on.
-fn nearest_below<S: QuoteSource>(s: &S, from: usize, line: usize) -> Option<Seen>
-    ensures { MatchOption result (NoneBelow (S.page s.now) from line) (λ n. Below (S.page s.now) from line n.line n.figure) }
+// A line's figure at its day, if the line is present.
+fn shown<S: QuoteSource>(s: &S, line: usize) -> Option<Dated>
+    ensures { MatchOption result ((S.page s.now).figure line ≡ None) (λ n. (n.day ≡ day (S.page s.now).days line) × ((S.page s.now).figure line ≡ Some n.figure)) }
 {
-    for j in (from..line).rev() {
-        if let Some(figure) = s.figure(j) {
-            return Some(Seen { line: j, figure });
-        }
-    }
-    None
+    s.figure(line).map(|figure| Dated {
+        day: s.day(line),
+        figure,
+    })
+}
+
+// The nearest present line below a line, from line `from` on.
+fn nearest_below<S: QuoteSource>(s: &S, from: usize, line: usize) -> Option<Dated>
+    ensures { MatchOption result (NoneBelow (S.page s.now) from line) (λ n. (j : ℕ) × Below (S.page s.now) from line j n.figure × (n.day ≡ day (S.page s.now).days j)) }
+{
+    (from..line).rev().find_map(|j| shown(s, j))
 }
 
 // The nearest present line above a line, before line `end`.
-fn nearest_above<S: QuoteSource>(s: &S, line: usize, end: usize) -> Option<Seen>
+fn nearest_above<S: QuoteSource>(s: &S, line: usize, end: usize) -> Option<Dated>
     requires { line < 29 }
-    ensures { MatchOption result (NoneAbove (S.page s.now) end line) (λ n. Above (S.page s.now) end line n.line n.figure) }
+    ensures { MatchOption result (NoneAbove (S.page s.now) end line) (λ n. (j : ℕ) × Above (S.page s.now) end line j n.figure × (n.day ≡ day (S.page s.now).days j)) }
 {
-    for j in line + 1..end {
-        if let Some(figure) = s.figure(j) {
-            return Some(Seen { line: j, figure });
-        }
-    }
-    None
+    (line + 1..end).find_map(|j| shown(s, j))
 }
 
 // The figure of an absent line of a group.
-fn bridge<S: QuoteSource>(s: &S, from: usize, end: usize, line: usize) -> Option<i32>
-    requires { Hole (S.page s.now) from end line }
-    ensures { Fills (S.page s.now) line result }
+fn bridge<S: QuoteSource>(s: &S, group: Range<usize>, line: usize) -> Option<i32>
+    requires { Hole (S.page s.now) group.start group.end line }
+    ensures { result ≡ gap_figure (S.page s.now) line }
 {
-    let below = nearest_below(s, from, line)?;
-    let above = nearest_above(s, line, end)?;
-    let low = Dated {
-        day: s.day(below.line),
-        figure: below.figure,
-    };
-    let high = Dated {
-        day: s.day(above.line),
-        figure: above.figure,
-    };
+    let low = nearest_below(s, group.start, line)?;
+    let high = nearest_above(s, line, group.end)?;
     straight_at(low, high, s.day(line))
 }
 
 // What an absent line has once the gaps are filled.
+#[tactic(auto, using(crate::proofs::Filling::at_apart))]
 fn fill<S: QuoteSource>(s: &S, line: usize) -> Option<i32>
     requires { (S.page s.now).figure line ≡ None }
-    ensures { Fills (S.page s.now) line result }
+    ensures { result ≡ gap_figure (S.page s.now) line }
 {
     match line {
-        8..16 => bridge(s, 8, 16, line),
-        16..29 => bridge(s, 16, 29, line),
+        8..16 => bridge(s, 8..16, line),
+        16..29 => bridge(s, 16..29, line),
         _ => None,
     }
 }
@@ -104,6 +93,7 @@ impl<S: QuoteSource> Gap<S> {
     }
 }
 
+#[tactic(auto, using(crate::proofs::Filling::at_line, crate::proofs::Neighbours::gap_sound))]
 impl<S: QuoteSource> QuoteSource for Gap<S> {
     ghost page = { λ g. gap_page (S.page g.below) };
 
@@ -116,9 +106,6 @@ impl<S: QuoteSource> QuoteSource for Gap<S> {
     }
 
     fn figure(&self, line: usize) -> Option<i32> {
-        match self.below.figure(line) {
-            Some(figure) => Some(figure),
-            None => fill(&self.below, line),
-        }
+        self.below.figure(line).or_else(|| fill(&self.below, line))
     }
 }

@@ -2,35 +2,24 @@
 ghost use Rattle.std.specs.Prelude.{◌≡◌, ◌<◌, Decides};
 ghost use Rattle.sources.specs.Page.{Page};
 ghost use Rattle.layers.specs.Reserve.{Thin, Reserved};
-ghost use Rattle.layers.specs.ReservePage.{absent, gone, reserve_page};
+ghost use Rattle.layers.specs.ReservePage.{gone, reserve_page};
 
 use days::table::DayTable;
 use sources::source::QuoteSource;
-
-fn is_absent<S: QuoteSource>(s: &S, line: usize) -> bool
-    ensures { result ≡ absent (S.page s.now) line }
-{
-    s.figure(line).is_none()
-}
 
 // Are the line and the two after it absent?
 fn is_gone<S: QuoteSource>(s: &S, line: usize) -> bool
     requires { line < 27 }
     ensures { result ≡ gone (S.page s.now) line }
 {
-    is_absent(s, line) && is_absent(s, line + 1) && is_absent(s, line + 2)
+    (line..line + 3).all(|k| s.figure(k).is_none())
 }
 
 // Are some three point lines in a row absent?
 fn is_thin<S: QuoteSource>(s: &S) -> bool
     ensures { Decides result (Thin (S.page s.now)) }
 {
-    for line in 8..14 {
-        if is_gone(s, line) {
-            return true;
-        }
-    }
-    false
+    (8..14).any(|line| is_gone(s, line))
 }
 
 // A source with another in reserve.
@@ -52,6 +41,7 @@ impl<A: QuoteSource, B: QuoteSource> Reserve<A, B> {
 }
 
 // Every question asks both sources: only a source's own answers show that its page is sound.
+#[tactic(auto, using(crate::proofs::Lending::points_lent, crate::proofs::Lending::points_kept, crate::proofs::Lending::reserve_sound))]
 impl<A: QuoteSource, B: QuoteSource> QuoteSource for Reserve<A, B> {
     ghost page = { λ s. reserve_page (A.page s.first) (B.page s.second) };
 

@@ -8,7 +8,7 @@ use Rattle.layers.proofs.gap.straight_at.Goals.{After-weigh-2}
 
 module _ (c : After-weigh-2) where
   abbrev sum : ℤ
-  sum = weighed c.args.low.day c.args.low.figure c.args.high.day c.args.high.figure c.args.day c.requires.0 c.requires.1
+  sum = weighed c.args.low.day c.args.low.figure c.args.high.day c.args.high.figure c.args.day c.requires.after c.requires.before
 
   added : to_z w64 (of_z w64 c.weigh.result) +ℤ to_z w64 (of_z w64 c.weigh-2.result) ≡ sum
   added =
@@ -19,7 +19,7 @@ module _ (c : After-weigh-2) where
       omega (arith, ints)
 
   fits : SFits w64 sum
-  fits = weighed_fits c.args.low.day c.args.low.figure c.args.high.day c.args.high.figure c.args.day c.requires.0 c.requires.1 (search rules) (search rules) (search rules)
+  fits = weighed_fits c.args.low.day c.args.low.figure c.args.high.day c.args.high.figure c.args.day c.requires.after c.requires.before (search rules) (search rules) (search rules)
 
 pub overflow_add-sum : goal.overflow_add-sum
 overflow_add-sum c = subst (SFits w64) (sym (added c)) (fits c)
@@ -34,7 +34,7 @@ module _ (c : goal.In_ok-figure) where
       c.in_ok-figure.ensures.answer.1 ∙ ap (λ z. floor_div z (c.args.high.day - c.args.low.day)) (to_z-of_z w64 _ (overflow_add-sum b) ∙ added b)
 
   small : SFits w32 line
-  small = straight_fits c.args.low.day c.args.low.figure c.args.high.day c.args.high.figure c.args.day c.requires.0 c.requires.1 (search rules) (search rules)
+  small = straight_fits c.args.low.day c.args.low.figure c.args.high.day c.args.high.figure c.args.day c.requires.after c.requires.before (search rules) (search rules)
 
 pub overflow_cast-result : goal.overflow_cast-result
 overflow_cast-result c = let q = quotient c in let s = small c in omega (arith, ints)
