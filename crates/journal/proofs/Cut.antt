@@ -1,25 +1,32 @@
--- Where a run of bytes ends: what comes before the first byte of a kind, and what from it on.
-use Rattle.std.proofs.Common.{◌≡◌, ℕ, zero, suc, ◌<◌, ◌≤◌, Bool, true, false, List, [], ◌∷◌, length, get_or, take, drop, refl, ap, arith}
+-- Where the first byte of a kind lies: what comes before it, and what from it on.
+use Rattle.std.proofs.Common.{◌≡◌, ℕ, suc, ◌+◌, ◌≤◌, Bool, true, false, cond, not, ltb, List, [], ◌∷◌, length, take, drop, Some, None, Option, position, unwrap_or, refl, ap, ◌∙◌, arith}
+use Rattle.std.proofs.lemmas.Bool.Decides.{nat_tests}
+use Rattle.std.proofs.lemmas.List.Sums.{prefix_len-le-length}
+use Rattle.std.specs.List.{position_or_len}
 use Rattle.journal.specs.Speech.{before, since}
 
--- n bytes are none of the kind, and the next one is, or there is none
+one_more : (n : ℕ) → 1 + n ≡ suc n
+one_more n = omega arith
+
+front : (is : ℕ → Bool) (bs : List ℕ) → take (position_or_len is bs) bs ≡ before is bs
+front is [] = refl
+front is (b ∷ bs) =
+    elim (is b) as (λ v. take (cond (not v) (1 + position_or_len is bs) 0) (b ∷ bs) ≡ cond v [] (b ∷ before is bs)) [ true ↦ refl | false ↦ rw one_more (ap (λ l. b ∷ l) (front is bs)) ]
+
+back : (is : ℕ → Bool) (bs : List ℕ) → drop (position_or_len is bs) bs ≡ since is bs
+back is [] = refl
+back is (b ∷ bs) =
+    elim (is b) as (λ v. drop (cond (not v) (1 + position_or_len is bs) 0) (b ∷ bs) ≡ cond v (b ∷ bs) (since is bs)) [ true ↦ refl | false ↦ rw one_more (back is bs) ]
+
+or_all : (n m : ℕ) → n ≤ m → unwrap_or (cond (ltb n m) (Some n) None) m ≡ n
+or_all n m h = grind (arith, nat_tests)
+
+-- a text is cut there
 pub record Cut (is : ℕ → Bool) (bs : List ℕ) (n : ℕ) : Type 0 where
-  pub within : n ≤ length bs
-  pub passed : (k : ℕ) → k < n → is (get_or bs k 0) ≡ false
-  pub stops : n < length bs → is (get_or bs n 0) ≡ true
+  pub front : take n bs ≡ before is bs
+  pub back : drop n bs ≡ since is bs
 
-tail : (is : ℕ → Bool) (b : ℕ) (bs : List ℕ) (n : ℕ) → Cut is (b ∷ bs) (suc n) → Cut is bs n
-tail is b bs n c =
-    record { within = omega (arith, c.within); passed = λ k h. c.passed (suc k) (omega arith); stops = λ h. c.stops (omega arith) }
-
-pub front : (is : ℕ → Bool) (bs : List ℕ) (n : ℕ) → Cut is bs n → take n bs ≡ before is bs
-front is [] zero c = refl
-front is [] (suc n) c = refl
-front is (b ∷ bs) zero c = rw (c.stops (omega arith))
-front is (b ∷ bs) (suc n) c = rw (c.passed 0 (omega arith)) (ap (λ l. b ∷ l) (front is bs n (tail is b bs n c)))
-
-pub back : (is : ℕ → Bool) (bs : List ℕ) (n : ℕ) → Cut is bs n → drop n bs ≡ since is bs
-back is [] zero c = refl
-back is [] (suc n) c = refl
-back is (b ∷ bs) zero c = rw (c.stops (omega arith))
-back is (b ∷ bs) (suc n) c = rw (c.passed 0 (omega arith)) (back is bs n (tail is b bs n c))
+pub cut : (is : ℕ → Bool) (bs : List ℕ) (r : Option ℕ) (n : ℕ) → r ≡ position is bs → n ≡ unwrap_or r (length bs) → Cut is bs n
+cut is bs r n e u =
+    let p : n ≡ position_or_len is bs = u ∙ ap (λ o. unwrap_or o (length bs)) e ∙ or_all _ _ (prefix_len-le-length (λ b. not (is b)) bs) in
+    record { front = ap (λ k. take k bs) p ∙ front is bs; back = ap (λ k. drop k bs) p ∙ back is bs }

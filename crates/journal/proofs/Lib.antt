@@ -1,6 +1,3 @@
-mod Commands
-mod Counts
 mod Cut
 mod Digits
-mod Spelled
 mod Texts

@@ -12,16 +12,20 @@ after_suc : (t : List ℕ) (n : ℕ) → after t (suc n) ≡ after_word (after t
 after_suc t zero = refl
 after_suc t (suc n) = after_suc (after_word t) n
 
-pub after_more : (t : List ℕ) (n : ℕ) → after t (n + 1) ≡ after_word (after t n)
-after_more t n = ap (after t) (add-one n) ∙ after_suc t n
+-- u is what is left of t after its first n words
+pub after_more : (t u : List ℕ) (n : ℕ) → u ≡ after t n → after_word u ≡ after t (n + 1)
+after_more t u n e = ap after_word e ∙ sym (after_suc t n) ∙ ap (after t) (sym (add-one n))
 
--- one number more
-pub numbers_more : (t : List ℕ) (i : ℕ) (ds : List ℕ) (v : ℕ) → i < length ds → Numbers t i ds → Some v ≡ natural_of (word t i) → Numbers t (i + 1) (set ds i v)
-numbers_more t i ds v h f e =
+number_at : (t u : List ℕ) (n : ℕ) → u ≡ after t n → natural_of (first_word u) ≡ natural_of (word t n)
+number_at t u n e = ap (λ z. natural_of (first_word z)) e ∙ ap natural_of (sym (word_is t n))
+
+-- its next word is one number more
+pub numbers_more : (t u : List ℕ) (i : ℕ) (ds : List ℕ) (v : ℕ) → u ≡ after t i → i < length ds → Numbers t i ds → Some v ≡ natural_of (first_word u) → Numbers t (i + 1) (set ds i v)
+numbers_more t u i ds v l h f e =
     below_more (λ k. natural_of (word t k) ≡ Some (get_or (set ds i v) k 0)) i
-    (λ k l. f k l ∙ ap Some (sym (get_or-set_other ds i k v 0 (λ z. omega arith))))
-    (sym e ∙ ap Some (sym (get_or-set_same ds i v 0 h)))
+    (λ k b. f k b ∙ ap Some (sym (get_or-set_other ds i k v 0 (λ z. omega arith))))
+    (sym (e ∙ number_at t u i l) ∙ ap Some (sym (get_or-set_same ds i v 0 h)))
 
--- a word that is no number
-pub numbers_stop : (t : List ℕ) (i n : ℕ) → i < n → None ≡ natural_of (word t i) → (ds : List ℕ) → Numbers t n ds → ⊥
-numbers_stop t i n h e ds f = let g = f i h in let z : ◌≡◌ {A = ℕ} 0 1 = cc in omega arith
+-- its next word is no number
+pub numbers_stop : (t u : List ℕ) (i n : ℕ) → u ≡ after t i → i < n → None ≡ natural_of (first_word u) → (ds : List ℕ) → Numbers t n ds → ⊥
+numbers_stop t u i n l h e ds f = let g = f i h in let m = number_at t u i l in cc

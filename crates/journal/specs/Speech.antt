@@ -1,17 +1,19 @@
 -- What a line says: words between blanks, before a comment. Assumes nothing.
-use Rattle.std.specs.Prelude.{ℕ, Bool, true, cond, not, List, [], ◌∷◌, ◌==◌}
-use Rattle.journal.specs.declared.words.Edge.{Edge}
-use Rattle.journal.specs.declared.words.Edge.TheVariants.{Comment, Blank, Word}
+use Rattle.std.specs.Prelude.{◌≡◌, ℕ, Bool, true, cond, not, List, [], ◌∷◌, ◌==◌, Option, MatchOption, ◌≢◌}
+use Rattle.std.specs.Borrow.{Bor}
+use Rattle.journal.specs.declared.words.Words.{Words}
+
+-- a number sign or a newline ends what a line says
+abbrev pub is_end : ℕ → Bool
+is_end b = cond (b == 35) true (b == 10)
 
 -- space, tab, carriage return
 abbrev pub is_blank : ℕ → Bool
 is_blank b = cond (b == 32) true (cond (b == 9) true (b == 13))
 
--- a number sign or a newline ends what a line says
-abbrev pub is_edge : Edge → ℕ → Bool
-is_edge Comment b = cond (b == 35) true (b == 10)
-is_edge Blank b = is_blank b
-is_edge Word b = not (is_blank b)
+-- a byte of a word
+abbrev pub in_word : ℕ → Bool
+in_word b = not (is_blank b)
 
 -- the bytes before the first one of a kind
 abbrev pub before : (ℕ → Bool) → List ℕ → List ℕ
@@ -24,10 +26,15 @@ since is [] = []
 since is (b ∷ bs) = cond (is b) (b ∷ bs) (since is bs)
 
 abbrev pub said : List ℕ → List ℕ
-said line = before (is_edge Comment) line
+said line = before is_end line
 
 abbrev pub first_word : List ℕ → List ℕ
-first_word text = before (is_edge Blank) (since (is_edge Word) text)
+first_word text = before is_blank (since in_word text)
 
 abbrev pub after_word : List ℕ → List ℕ
-after_word text = since (is_edge Blank) (since (is_edge Word) text)
+after_word text = since is_blank (since in_word text)
+
+-- one call of a reader of words: it gives the first word that is left, if there is one, and leaves what follows it
+pub record Steps (s : Words) (r : Option (Bor (List ℕ))) (t : Words) : Type 0 where
+  pub word : MatchOption r (first_word s.rest.now ≡ []) (λ w. (w.now ≡ first_word s.rest.now) × (w.now ≢ []))
+  pub left : t.rest.now ≡ after_word s.rest.now

@@ -1,6 +1,11 @@
 // What a line of a journal asks for.
+ghost use Rattle.std.specs.Prelude.{Some};
+ghost use Rattle.journal.specs.Grammar.{board_key};
+ghost use Rattle.journal.specs.Spelling.{spelled};
+
 use boards::quoting::PROVIDERS;
 use days::lines::LINES;
+use std::fmt;
 
 #[derive(Clone, Copy)]
 pub enum Which {
@@ -49,11 +54,14 @@ pub enum Command {
     Page,
 }
 
-impl Which {
-    pub(crate) fn name(&self) -> &'static str {
-        match self {
+impl fmt::Display for Which {
+    ghost output = { λ w. Some (spelled (board_key w)) };
+
+    // The word that names it in a journal.
+    fn fmt<W: fmt::Write>(&self, f: &mut fmt::Formatter<W>) -> fmt::Result {
+        f.write_str(match self {
             Which::Today => "today",
             Which::Yesterday => "yesterday",
-        }
+        })
     }
 }

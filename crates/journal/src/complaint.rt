@@ -1,4 +1,7 @@
 // What is wrong with a line that is no command.
+ghost use Rattle.std.specs.Prelude.{Some};
+ghost use Rattle.journal.specs.Wording.{reason, wording};
+
 use crate::command::Which;
 use std::fmt;
 
@@ -21,31 +24,29 @@ pub enum WordFault {
     NoSource,
 }
 
-impl WordFault {
-    fn text(&self) -> &'static str {
-        match self {
+impl fmt::Display for WordFault {
+    ghost output = { λ fault. Some (reason fault) };
+
+    fn fmt<W: fmt::Write>(&self, f: &mut fmt::Formatter<W>) -> fmt::Result {
+        f.write_str(match self {
             WordFault::Missing => "is missing",
             WordFault::Surplus => "is one too many",
             WordFault::NoNumber => "is no number from 0 to 4294967295",
             WordFault::NoFigure => "is no number from -2147483648 to 2147483647",
             WordFault::NoBoard => "is neither today nor yesterday",
             WordFault::NoSource => "is out of place in a source",
-        }
+        })
     }
 }
 
 impl fmt::Display for Complaint {
+    ghost output = { λ complaint. Some (wording complaint) };
+
     fn fmt<W: fmt::Write>(&self, f: &mut fmt::Formatter<W>) -> fmt::Result {
-        match *self {
+        match self {
             Complaint::UnknownCommand => f.write_str("unknown command"),
-            Complaint::Word { place, fault } => {
-                let text = fault.text();
-                write!(f, "word {place} {text}")
-            }
-            Complaint::BoardNotMade { which } => {
-                let name = which.name();
-                write!(f, "no board for {name} yet")
-            }
+            Complaint::Word { place, fault } => write!(f, "word {place} {fault}"),
+            Complaint::BoardNotMade { which } => write!(f, "no board for {which} yet"),
             Complaint::NoSourceChosen => f.write_str("no source chosen yet"),
         }
     }

@@ -1,9 +1,10 @@
 // Commands out of the words of a line.
-ghost use Rattle.std.specs.Prelude.{◌≡◌, ℕ, List, [], if◌then◌else◌, Decides, MatchResult, ◌≢◌};
+ghost use Rattle.std.specs.Prelude.{◌≡◌, ℕ, List, [], if◌then◌else◌, Some, None, ◌⊎◌, Decides, MatchOption, MatchResult, ◌≢◌};
+ghost use Rattle.std.specs.Fn.{FnOnceReturnsAt};
 ghost use Rattle.std.specs.Result.{result_ok};
 ghost use Rattle.journal.specs.Decimal.{natural_of, figure_of};
 ghost use Rattle.journal.specs.Speech.{first_word, after_word};
-ghost use Rattle.journal.specs.Grammar.{after, Numbers, board_key, ReserveWords, BaseWords, base_count, Taken, Led, Parsed};
+ghost use Rattle.journal.specs.Grammar.{after, Numbers, board_key, BaseWords, base_count, Taken, Led, Parsed};
 ghost use Rattle.journal.specs.Spelling.{spelled};
 ghost use Rattle.journal.specs.declared.command.Which.{Which as Board};
 ghost use Rattle.journal.specs.declared.command.Base.{Base as Bottom};
@@ -22,10 +23,9 @@ fn word<'a>(words: &mut Words<'a>) -> Result<&'a [u8], Complaint>
     ensures found { MatchResult result (λ w. (w.now ≡ first_word words.old.rest.now) × (w.now ≢ [])) (λ _. first_word words.old.rest.now ≡ []) }
     ensures left { words.new.rest.now ≡ after_word words.old.rest.now }
 {
-    match words.next() {
-        Some(word) => Ok(word),
-        None => Err(complaint(words, WordFault::Missing)),
-    }
+    words
+        .next()
+        .ok_or_else(|| complaint(words, WordFault::Missing))
 }
 
 // What is wrong with the word taken last.
@@ -36,36 +36,49 @@ fn complaint(words: &Words<'_>, fault: WordFault) -> Complaint {
     }
 }
 
+// Reads a word that the command needs.
+fn read<T, F: FnOnce(&[u8]) -> Option<T>>(
+    words: &mut Words<'_>,
+    says: F,
+    fault: WordFault,
+) -> Result<T, Complaint>
+    requires { F.IsAlwaysCallable says }
+    ensures value { MatchResult result (λ x. FnOnceReturnsAt F.FnOnce says (first_word words.old.rest.now) (Some x)) (λ _. (first_word words.old.rest.now ≡ []) ⊎ FnOnceReturnsAt F.FnOnce says (first_word words.old.rest.now) None) }
+    ensures left { words.new.rest.now ≡ after_word words.old.rest.now }
+{
+    let word = word(words)?;
+    says(word).ok_or_else(|| complaint(words, fault))
+}
+
 fn number(words: &mut Words<'_>) -> Result<u32, Complaint>
     ensures value { result_ok result ≡ natural_of (first_word words.old.rest.now) }
     ensures left { words.new.rest.now ≡ after_word words.old.rest.now }
 {
-    let word = word(words)?;
-    match number::natural(word) {
-        Some(value) => Ok(value),
-        None => Err(complaint(words, WordFault::NoNumber)),
-    }
+    read(words, number::natural, WordFault::NoNumber)
 }
 
 fn figure(words: &mut Words<'_>) -> Result<i32, Complaint>
     ensures value { result_ok result ≡ figure_of (first_word words.old.rest.now) }
     ensures left { words.new.rest.now ≡ after_word words.old.rest.now }
 {
-    let word = word(words)?;
-    match number::figure(word) {
-        Some(value) => Ok(value),
-        None => Err(complaint(words, WordFault::NoFigure)),
-    }
+    read(words, number::figure, WordFault::NoFigure)
 }
 
 fn which(words: &mut Words<'_>) -> Result<Which, Complaint>
     ensures board { MatchResult result (λ w. first_word words.old.rest.now ≡ spelled (board_key w)) (λ _. (w : Board) → first_word words.old.rest.now ≢ spelled (board_key w)) }
     ensures left { words.new.rest.now ≡ after_word words.old.rest.now }
 {
-    match Keyword::of(word(words)?) {
-        Some(Keyword::Today) => Ok(Which::Today),
-        Some(Keyword::Yesterday) => Ok(Which::Yesterday),
-        _ => Err(complaint(words, WordFault::NoBoard)),
+    read(words, board, WordFault::NoBoard)
+}
+
+// The board that a word names, if it names one.
+fn board(word: &[u8]) -> Option<Which>
+    ensures { MatchOption result ((w : Board) → word.now ≢ spelled (board_key w)) (λ w. word.now ≡ spelled (board_key w)) }
+{
+    match Keyword::of(word)? {
+        Keyword::Today => Some(Which::Today),
+        Keyword::Yesterday => Some(Which::Yesterday),
+        _ => None,
     }
 }
 
@@ -74,8 +87,8 @@ fn numbers<const N: usize>(words: &mut Words<'_>) -> Result<[u32; N], Complaint>
     ensures { MatchResult result (λ ns. Numbers words.old.rest.now N ns × (words.new.rest.now ≡ after words.old.rest.now N)) (λ _. (ns : List ℕ) → Numbers words.old.rest.now N ns → ⊥) }
 {
     let mut values = [0; N];
-    for i in 0..N {
-        values[i] = number(words)?;
+    for value in &mut values {
+        *value = number(words)?;
     }
     Ok(values)
 }
@@ -122,14 +135,11 @@ fn take(words: &mut Words<'_>, key: Keyword) -> bool
     ensures left { words.new.rest.now ≡ (if result then after_word words.old.rest.now else words.old.rest.now) }
 {
     let mut ahead = *words;
-    let Some(word) = ahead.next() else {
-        return false;
-    };
-    if !key.is(word) {
-        return false;
+    let found = ahead.next().is_some_and(|word| key.is(word));
+    if found {
+        *words = ahead;
     }
-    *words = ahead;
-    true
+    found
 }
 
 fn days(words: &mut Words<'_>) -> Result<Command, Complaint>
@@ -142,25 +152,16 @@ fn days(words: &mut Words<'_>) -> Result<Command, Complaint>
     Ok(Command::Days { days })
 }
 
-// What is wrong with the next word of a source.
-fn misplaced(words: &mut Words<'_>) -> Complaint {
-    match words.next() {
-        Some(_) => complaint(words, WordFault::NoSource),
-        None => complaint(words, WordFault::Missing),
-    }
-}
-
-// The two boards of a reserve, today's first.
-fn reserve(words: &mut Words<'_>) -> Result<(), Complaint>
-    ensures { MatchResult result (λ _. ReserveWords words.old.rest.now × (words.new.rest.now ≡ after words.old.rest.now 2)) (λ _. ReserveWords words.old.rest.now → ⊥) }
+// Takes the next word, which has to be this one in a source.
+fn expect(words: &mut Words<'_>, key: Keyword) -> Result<(), Complaint>
+    ensures test { MatchResult result (λ _. first_word words.old.rest.now ≡ spelled key) (λ _. first_word words.old.rest.now ≢ spelled key) }
+    ensures left { words.new.rest.now ≡ after_word words.old.rest.now }
 {
-    if !take(words, Keyword::Today) {
-        return Err(misplaced(words));
+    if key.is(word(words)?) {
+        Ok(())
+    } else {
+        Err(complaint(words, WordFault::NoSource))
     }
-    if !take(words, Keyword::Yesterday) {
-        return Err(misplaced(words));
-    }
-    Ok(())
 }
 
 fn base(words: &mut Words<'_>) -> Result<Base, Complaint>
@@ -169,11 +170,10 @@ fn base(words: &mut Words<'_>) -> Result<Base, Complaint>
     if take(words, Keyword::Today) {
         return Ok(Base::Today);
     }
-    if take(words, Keyword::Reserve) {
-        reserve(words)?;
-        return Ok(Base::ReserveTodayYesterday);
-    }
-    Err(misplaced(words))
+    expect(words, Keyword::Reserve)?;
+    expect(words, Keyword::Today)?;
+    expect(words, Keyword::Yesterday)?;
+    Ok(Base::ReserveTodayYesterday)
 }
 
 fn source(words: &mut Words<'_>) -> Result<Command, Complaint>

@@ -1,6 +1,7 @@
 // The words of a line, one after another.
-ghost use Rattle.std.specs.Prelude.{◌≡◌, ◌≤◌, [], length, take, drop, MatchOption, ◌≢◌};
-ghost use Rattle.journal.specs.Speech.{is_edge, before, since, said, first_word, after_word};
+ghost use Rattle.std.specs.Prelude.{◌≡◌, ℕ, ◌≤◌, Bool, length, take, drop};
+ghost use Rattle.std.specs.Iterator.{at_most};
+ghost use Rattle.journal.specs.Speech.{is_end, is_blank, before, since, said, Steps};
 
 // What is left of a line, and how many words were taken from it.
 #[derive(Clone, Copy)]
@@ -9,32 +10,12 @@ pub(crate) struct Words<'a> {
     taken: usize,
 }
 
-// What a run of bytes ends before.
-#[derive(Clone, Copy)]
-enum Edge {
-    Comment,
-    Blank,
-    Word,
-}
-
 impl<'a> Words<'a> {
     pub(crate) fn of(line: &'a [u8]) -> Words<'a>
         ensures { result.rest.now ≡ said line.now }
     {
-        let (rest, _) = line.split_at(run(line, Edge::Comment));
+        let (rest, _) = line.split_at(run(line, is_end));
         Words { rest, taken: 0 }
-    }
-
-    // The next word, if there is one.
-    pub(crate) fn next(&mut self) -> Option<&'a [u8]>
-        ensures word { MatchOption result (first_word self.old.rest.now ≡ []) (λ w. (w.now ≡ first_word self.old.rest.now) × (w.now ≢ [])) }
-        ensures left { self.new.rest.now ≡ after_word self.old.rest.now }
-    {
-        let (_, text) = self.rest.split_at(run(self.rest, Edge::Word));
-        let (word, rest) = text.split_at(run(text, Edge::Blank));
-        self.rest = rest;
-        self.taken = self.taken.saturating_add(1);
-        if word.is_empty() { None } else { Some(word) }
     }
 
     // The place of the word taken last, counted from 1.
@@ -43,32 +24,45 @@ impl<'a> Words<'a> {
     }
 }
 
-// How many bytes come before the first that is an edge.
-fn run(text: &[u8], edge: Edge) -> usize
+impl<'a> Iterator for Words<'a> {
+    type Item = &'a [u8];
+
+    ghost next_gives = { Steps };
+
+    ghost remaining = { λ s. at_most (length s.rest.now) };
+
+    // The next word, if there is one.
+    fn next(&mut self) -> Option<&'a [u8]> {
+        let (_, text) = self.rest.split_at(run(self.rest, |byte| !is_blank(byte)));
+        let (word, rest) = text.split_at(run(text, is_blank));
+        self.rest = rest;
+        self.taken = self.taken.saturating_add(1);
+        (!word.is_empty()).then_some(word)
+    }
+}
+
+// How many bytes come before the first that a test takes.
+fn run<F: Fn(u8) -> bool>(text: &[u8], ends: F) -> usize
+    ghost is: { ℕ → Bool }
+    requires may { F.IsAlwaysCallable ends }
+    requires tells { (x : ℕ) (r : Bool) → F.post ends x r → r ≡ is x }
     ensures within { result ≤ length text.now }
-    ensures front { take result text.now ≡ before (is_edge edge) text.now }
-    ensures back { drop result text.now ≡ since (is_edge edge) text.now }
+    ensures front { take result text.now ≡ before is text.now }
+    ensures back { drop result text.now ≡ since is text.now }
 {
-    for (at, byte) in text.iter().enumerate() {
-        if is_edge(edge, *byte) {
-            return at;
-        }
-    }
-    text.len()
+    text.iter().copied().position(ends).unwrap_or(text.len())
 }
 
-fn is_edge(edge: Edge, byte: u8) -> bool
-    ensures { result ≡ is_edge edge byte }
+// What a line says ends before a number sign or a newline.
+fn is_end(byte: u8) -> bool
+    ensures { result ≡ is_end byte }
 {
-    match edge {
-        Edge::Comment => byte == b'#' || byte == b'\n',
-        Edge::Blank => is_blank(byte),
-        Edge::Word => !is_blank(byte),
-    }
+    matches!(byte, b'#' | b'\n')
 }
 
+// What stands between words.
 fn is_blank(byte: u8) -> bool
-    ensures { result ≡ is_edge Edge.Blank byte }
+    ensures { result ≡ is_blank byte }
 {
-    byte == b' ' || byte == b'\t' || byte == b'\r'
+    matches!(byte, b' ' | b'\t' | b'\r')
 }

@@ -1,14 +1,17 @@
-use Rattle.std.proofs.Common.{length, sym, arith}
-use Rattle.journal.specs.Speech.{is_edge}
-use Rattle.journal.proofs.Cut.{Cut, front, back}
+use Rattle.std.proofs.Common.{rules}
+use Rattle.std.proofs.lemmas.Iterator.{YieldsList-from_slice}
+use Rattle.std.proofs.lemmas.Iterator.Consumers.{YieldsList-from_copied}
+use Rattle.std.proofs.lemmas.Iterator.Search.{position_from_yields_List}
+use Rattle.journal.proofs.Cut.{cut}
 use Rattle.journal.proofs.words.run.Goals as goal
 
-pub returns-then-is_edge : goal.returns-then-is_edge
-returns-then-is_edge c =
-    let cut : Cut (is_edge c.args.edge) c.args.text.now c.loop-at.at = record { within = omega arith; passed = c.loop-at.invariant; stops = λ _. sym c.if-is_edge.ensures } in
-    record { within = cut.within; front = front _ _ _ cut; back = back _ _ _ cut }
-
 pub returns : goal.returns
-returns c =
-    let cut : Cut (is_edge c.args.edge) c.args.text.now (length c.args.text.now) = record { within = omega arith; passed = λ k h. c.loop-at.invariant k (omega arith); stops = λ h. absurd (omega arith) } in
-    record { within = cut.within; front = front _ _ _ cut; back = back _ _ _ cut }
+returns g c =
+    let text = c.args.text.now in
+    let tells = c.requires.1.1 in
+    let gives = g.met.F.FnMut.1.post_iff in
+    let stays = g.met.F.Fn.1.step_stays in
+    let bytes = YieldsList-from_copied (YieldsList-from_slice {s = c.copied.result.iter} text cc) in
+    let found = position_from_yields_List g.is _ _ c.position.result c.position.ensures.ran bytes (λ x b f k. (stays _ (x, tt) b f k, tells x b ((gives _ (x, tt) b).1 (f, k)))) in
+    let cut = cut g.is text c.position.result _ found c.unwrap_or.ensures in
+    record { within = search rules; front = cut.front; back = cut.back }
