@@ -2,20 +2,18 @@
 use Rattle.std.proofs.Common.{◌≡◌, ℕ, zero, suc, ◌+◌, ◌*◌, ◌^◌, ◌<◌, ◌≤◌, true, false, not, eqb, List, [], ◌∷◌, ◌++◌, map, length, get_or, ℤ, is_some, Some, None, Option, sym, refl, ap, ◌∙◌, subst, ⊎_elim, append_assoc, zero-add, arith, length-append}
 use Rattle.std.proofs.lemmas.List.{length-map, get_or_past, ext_get_or}
 use Rattle.std.proofs.lemmas.Bool.{eq-eqb, ne_eqb, and_from, cases_lt}
-use Rattle.std.specs.Option.{option_or}
-use Rattle.days.proofs.Asked.{first_failing-append}
 use Rattle.days.proofs.Ranges.{test_from_range}
 use Rattle.days.specs.Days.{day}
 use Rattle.days.specs.Lines.{in_range}
 use Rattle.days.specs.Questions.{first_failing}
 use Rattle.days.specs.declared.refusal.Refusal.{Refusal}
 use Rattle.sources.specs.Page.{Page, Sound}
-use Rattle.sheets.specs.Asked.{Due, opening, closing, end, line, of_entry, of_words, of_days, asked}
+use Rattle.sheets.specs.Asked.{Due, opening, closing, line, of_entry, of_words, of_days, asked}
 use Rattle.sheets.specs.Encoding.{of_kind, head_word, figure_word, line_words, lines_from, body, words_of}
 use Rattle.sheets.specs.Entries.{Item, item, entries_from, words_in, day_in, figure_in}
 use Rattle.sheets.specs.Meaning.{told_page, accepted, sheet_page}
 use Rattle.sheets.specs.Words.{kind, line_of, spare_of, figure_of}
-use Rattle.sheets.proofs.Due.{first_word, ended, opening_passes, closing_passes}
+use Rattle.sheets.proofs.Due.{passed_first, passed_at, ended, opening_passes, closing_passes}
 use Rattle.sheets.proofs.Exact.{means_told}
 use Rattle.sheets.proofs.Fields.{kind_of, load_of, head_kind, head_line, head_spare, head_day, figure_kind, figure_back}
 use Rattle.sheets.proofs.Handed.{entries_quoted, entries_bare, entries_none}
@@ -39,9 +37,9 @@ read_none p k i c l e h =
     let none = entries_none i (of_kind 3 c ∷ []) (λ _. ne_eqb (kind (of_kind 3 c)) 0 (λ z. omega (arith, kind_of 3 c (omega arith) h))) in
     record {
       passes =
-          ap (λ j. first_failing (of_words (line j) i (of_kind 3 c ∷ []))) l ∙ first_word closing i (of_kind 3 c ∷ []) (omega arith)
-          ∙ ap (λ (o : Option Refusal). option_or o (first_failing (of_words end (i + 1) []))) (closing_passes i (of_kind 3 c) (kind_of 3 c (omega arith) h) (load_of 3 c (omega arith) h ∙ e))
-          ∙ sym (ended (i + 1) []);
+          ap (λ j. first_failing (of_words (line j) i (of_kind 3 c ∷ []))) l
+          ∙ passed_at closing i (of_kind 3 c ∷ []) (omega arith) (closing_passes i (of_kind 3 c) (kind_of 3 c (omega arith) h) (load_of 3 c (omega arith) h ∙ e))
+          ∙ ended (i + 1) [] (omega arith);
       many = ap length none;
       days = λ j z. absurd (omega arith);
       figures = λ j z. absurd (omega arith);
@@ -52,7 +50,7 @@ read_more : (p : Page) (n k i : ℕ) (e : Item) (vs : List ℕ) → k < 29 → e
 read_more p n k i e vs low first pass day-is figure_is r = record {
   passes =
       ap (λ (d : Due). first_failing (of_words d i (words_in e ++ vs))) (line_head k low) ∙ due k i e.place e.head e.figure vs _ first
-      ∙ first_failing-append (of_entry k e) _ ∙ ap (λ (o : Option Refusal). option_or o (first_failing (of_words (line (suc k)) (i + length (words_in e)) vs))) pass ∙ r.passes;
+      ∙ passed_first (of_entry k e) _ pass ∙ r.passes;
   many = ap length first ∙ ap suc r.many;
   days = λ j h. ap (λ l. get_or (map day_in l) j 0) first ∙ day_at j h;
   figures = λ j h. ap (λ l. get_or (map figure_in l) j None) first ∙ figure_at j h;
@@ -104,7 +102,7 @@ module _ (p : Page) (s : Sound p) (c : ℕ) (short : c < 2 ^ 30) where
       let l = small k low in
       read_more p n k i (item i (head_word k d) None) vs low
       (entries_bare i (head_word k d ∷ vs) (omega arith) (eq-eqb _ 0 (head_kind k d low l)) (λ _. bare))
-      (entry_passes k i (head_word k d) None (head_line k d low l) (head_spare k d low l) (λ w z. absurd (let y : ◌≡◌ {A = ℕ} 0 1 = cc in omega arith)))
+      (entry_passes k i (head_word k d) None (head_line k d low l) (head_spare k d low l) (λ w z. absurd cc))
       (head_day k d low l) (sym is) (r (i + 1) refl)
   read_line n k i (Some x) vs low is bare r =
       let d = day p.days k in
@@ -182,11 +180,7 @@ module _ (p : Page) (s : Sound p) where
   words_pass =
       let v = load_of 2 p.valuation (omega arith) early in
       let d = s.dated in
-      first_failing-append (of_words opening 0 (words_of p)) _
-      ∙ ap (λ (o : Option Refusal). option_or o (first_failing (of_days (map day_in (entries_from 1 (tail p 29 0 (1 + length (body p))))) 29 0)))
-      (first_word opening 0 (words_of p) (omega arith)
-      ∙ ap (λ (o : Option Refusal). option_or o (first_failing (of_words (line 0) 1 (tail p 29 0 (1 + length (body p)))))) (opening_passes 0 (of_kind 2 p.valuation) (kind_of 2 p.valuation (omega arith) early) (omega arith))
-      ∙ lines.passes)
+      passed_first (of_words opening 0 (words_of p)) _ (passed_at opening 0 (words_of p) (omega arith) (opening_passes 0 (of_kind 2 p.valuation) (kind_of 2 p.valuation (omega arith) early) (omega arith)) ∙ lines.passes)
       ∙ ap (λ d. first_failing (of_days d 29 0)) same_days ∙ lawful_passes p.days s.lawful 29 0 (omega arith)
 
   pub words_accepted : accepted (words_of p) ≡ true

@@ -1,18 +1,24 @@
 -- Where a reading ends: refused at a word, at a day, or accepted.
-use Rattle.std.proofs.Common.{◌≡◌, ℕ, true, false, eqb, List, [], ◌∷◌, ◌++◌, map, length, get_or, take, ℤ, Some, None, Ok, Err, Option, sym, ap, ◌∙◌, arith}
-use Rattle.std.proofs.lemmas.List.{take_all, append-nil}
+use Rattle.std.proofs.Common.{◌≡◌, ℕ, true, false, eqb, List, [], ◌∷◌, ◌++◌, map, length, get_or, drop, take, ℤ, Some, None, Ok, Err, Option, sym, ap, ◌∙◌, arith}
+use Rattle.std.proofs.lemmas.List.{take_all, append-nil, length-map, ext_get_or, get_or-map}
+use Rattle.std.proofs.lemmas.Simd.{map-map}
+use Rattle.std.specs.Array.{IsMapOf}
+use Rattle.std.specs.Fn.{Mut, Called}
 use Rattle.std.proofs.lemmas.Bool.{eqb-true, ne_eqb}
-use Rattle.std.specs.Option.{option_or}
-use Rattle.days.proofs.Asked.{passed, first_failing-append}
+use Rattle.days.proofs.Asked.{passed}
 use Rattle.days.specs.Questions.{first_failing}
-use Rattle.days.specs.declared.refusal.Refusal.{Refusal}
-use Rattle.sheets.specs.Asked.{opening, closing, of_words, of_days}
-use Rattle.sheets.specs.Entries.{Item, entries_from, entries_of, day_in, figure_in}
-use Rattle.sheets.specs.Kept.{Kept}
+use Rattle.sheets.specs.Asked.{opening, closing, line, of_words, of_days, asked}
+use Rattle.sheets.specs.Entries.{Item, entries_from, entries_of, no_item}
+use Rattle.sheets.specs.Kept.{AfterOpening, Kept}
+use Rattle.sheets.specs.Reader.{left, ReadSo}
 use Rattle.sheets.specs.Told.{told_sheet}
-use Rattle.sheets.specs.Words.{kind, load}
+use Rattle.sheets.specs.Views.{line_told}
+use Rattle.sheets.specs.Words.{kind}
+use Rattle.sheets.specs.declared.checking.Line.{Line}
+use Rattle.sheets.specs.declared.entry.Entries.{Entries}
 use Rattle.sheets.specs.declared.fault.SheetFault.{SheetFault}
 use Rattle.sheets.specs.declared.reading.Reading.{Reading}
+use Rattle.sheets.proofs.Due.{refused_first, passed_first}
 use Rattle.sheets.proofs.Handed.{entries_none}
 
 -- a closing word that passes is no head
@@ -24,28 +30,60 @@ unfolding of_words
 none_after i [] e = entries_none i [] (λ h. absurd (omega arith))
 none_after i (w ∷ ws) e = entries_none i (w ∷ ws) (λ h. no_head w (passed (eqb (kind w) 3) _ _ e).0)
 
-pub all_told : {A : Type 0} (f : Item → A) (as' : List A) (es all : List Item) → length as' ≡ 29 → es ≡ [] → take 29 as' ++ map f es ≡ map f all → as' ≡ map f all
-all_told f as' es all long none e =
-    sym (take_all 29 as' (omega arith)) ∙ sym (append-nil (take 29 as')) ∙ ap (λ l. take 29 as' ++ map f l) (sym none) ∙ e
+-- lines that are told by all the entries
+all_told : (lines : List Line) (es all : List Item) → length lines ≡ 29 → es ≡ [] → take 29 lines ++ map line_told es ≡ map line_told all → lines ≡ map line_told all
+all_told lines es all long none e =
+    sym (take_all 29 lines (omega arith)) ∙ sym (append-nil (take 29 lines)) ∙ ap (λ l. take 29 lines ++ map line_told l) (sym none) ∙ e
 
 module _ (ws : List ℕ) where
   pub word_refused : (f : SheetFault) → first_failing (of_words opening 0 ws) ≡ Some (told_sheet f) → Kept ws (Err f)
   word_refused f e = record {
-    told = sym (first_failing-append (of_words opening 0 ws) _ ∙ ap (λ (o : Option Refusal). option_or o (first_failing (of_days (map day_in (entries_of ws)) 29 0))) e);
+    told = sym (refused_first (of_words opening 0 ws) _ _ e);
     page = tt;
   }
 
-  module _ (days : List ℕ) (passes : first_failing (of_words opening 0 ws) ≡ None) (told-days : days ≡ map day_in (entries_of ws)) where
-    then_days : first_failing (of_words opening 0 ws ++ of_days (map day_in (entries_of ws)) 29 0) ≡ first_failing (of_days days 29 0)
-    then_days =
-        first_failing-append (of_words opening 0 ws) _ ∙ ap (λ (o : Option Refusal). option_or o (first_failing (of_days (map day_in (entries_of ws)) 29 0))) passes
-        ∙ ap (λ (d : List ℕ). first_failing (of_days d 29 0)) (sym told-days)
+  -- a reader of the words after an opening word that passes
+  module _ (v : ℕ) (s : Entries) (begun : AfterOpening ws v) (second : s.place ≡ 1) (rest : s.rest.now ≡ drop 1 ws) where
+    asked_on : first_failing (of_words opening 0 ws) ≡ first_failing (of_words (line 0) s.place s.rest.now)
+    asked_on = begun.asked_on ∙ sym (λ i. first_failing (of_words (line 0) (second i) (rest i)))
 
-    pub day_refused : (f : SheetFault) → first_failing (of_days days 29 0) ≡ Some (told_sheet f) → Kept ws (Err f)
-    day_refused f e = record { told = sym (then_days ∙ e); page = tt }
+    pub line_refused : (f : SheetFault) → first_failing (of_words (line 0) s.place s.rest.now) ≡ Some (told_sheet f) → Kept ws (Err f)
+    line_refused f e = word_refused f (asked_on ∙ e)
 
-    pub all_passed : (r : Reading) → first_failing (of_days days 29 0) ≡ None → r.valuation ≡ load (get_or ws 0 0) → r.days.days ≡ days → r.figures ≡ map figure_in (entries_of ws) → Kept ws (Ok r)
-    all_passed r e v d f = record {
-      told = sym (then_days ∙ e);
-      page = record { dated = v; tabled = d ∙ told-days; shown = λ k. ap (λ (l : List (Option ℤ)). get_or l k None) f };
-    }
+    -- the 29 lines that it read
+    module _ (t : Entries) (lines : List Line) (read : ReadSo 29 s t lines) where
+      pub closing_refused : (f : SheetFault) → Some (told_sheet f) ≡ first_failing (of_words closing t.place t.rest.now) → Kept ws (Err f)
+      closing_refused f e = line_refused f (sym read.asked ∙ sym e)
+
+      -- before a closing word that passes
+      module _ (long : length lines ≡ 29) (closed : None ≡ first_failing (of_words closing t.place t.rest.now)) where
+        told : lines ≡ map line_told (entries_of ws)
+        told = all_told lines (left t) (left s) long (none_after t.place t.rest.now (sym closed)) read.told ∙ ap (map line_told) (λ i. entries_from (second i) (rest i))
+
+        -- an array of what a function gives of each line
+        mapped : {F B : Type 0} (g : Mut F (Line × Unit {0}) B) {f : F} (h : Line → B) (ys : List B) → IsMapOf g f lines ys 29 → ((p q : F) (l : Line) (y : B) → Called g p (l, tt) y q → y ≡ h l) → ys ≡ map (λ e. h (line_told e)) (entries_of ws)
+        mapped g h ys m gives =
+            let d = line_told no_item in
+            ext_get_or (h d) ys (map h lines) (m.long ∙ sym long ∙ sym (length-map lines h))
+            (λ i l. let at = m.at i d (h d) (omega (arith, m.long)) in gives _ _ _ _ at.2 ∙ sym (get_or-map h lines i d (h d) (omega (arith, m.long))))
+            ∙ ap (map h) told ∙ map-map h line_told (entries_of ws)
+
+        -- the days of the lines
+        module _ {F : Type 0} (g : Mut F (Line × Unit {0}) ℕ) {f : F} (days : List ℕ) (each : IsMapOf g f lines days 29) (gives : (p q : F) (l : Line) (d : ℕ) → Called g p (l, tt) d q → d ≡ l.day) where
+          then_days : first_failing (asked ws) ≡ first_failing (of_days days 29 0)
+          then_days =
+              passed_first (of_words opening 0 ws) _ (asked_on ∙ sym read.asked ∙ sym closed)
+              ∙ ap (λ (d : List ℕ). first_failing (of_days d 29 0)) (sym (mapped g (λ l. l.day) days each gives))
+
+          pub day_refused : (f' : SheetFault) → first_failing (of_days days 29 0) ≡ Some (told_sheet f') → Kept ws (Err f')
+          day_refused f' e = record { told = sym (then_days ∙ e); page = tt }
+
+          pub all_passed : {G : Type 0} (k : Mut G (Line × Unit {0}) (Option ℤ)) {j : G} (r : Reading) → r.valuation ≡ v → (r.days.days ≡ days) × (first_failing (of_days days 29 0) ≡ None) → IsMapOf k j lines r.figures 29 → ((p q : G) (l : Line) (x : Option ℤ) → Called k p (l, tt) x q → x ≡ l.figure) → Kept ws (Ok r)
+          all_passed k r dated tabled figures shows = record {
+            told = sym (then_days ∙ tabled.1);
+            page = record {
+              dated = dated ∙ begun.dated;
+              tabled = tabled.0 ∙ mapped g (λ l. l.day) days each gives;
+              shown = λ n. ap (λ (l : List (Option ℤ)). get_or l n None) (mapped k (λ l. l.figure) r.figures figures shows);
+            };
+          }

@@ -21,7 +21,7 @@ use Rattle.sheets.proofs.Tabled.{lawful_from_pass}
 
 none_first : (o u : Option Refusal) → option_or o u ≡ None → (o ≡ None) × (u ≡ None)
 none_first None u e = (refl, e)
-none_first (Some r) u e = absurd (let z : ◌≡◌ {A = ℕ} 0 1 = cc in omega arith)
+none_first (Some r) u e = absurd cc
 
 -- the page that words tell, and what passing their questions says
 pub record Exact (ws : List ℕ) : Type 0 where
@@ -32,15 +32,17 @@ pub record Opened (w : ℕ) (vs : List ℕ) : Type 0 where
   pub is_opening : kind w ≡ 2
   pub in_time : load w ≤ 100000
   pub lines : Told 29 0 1 vs (entries_from 1 vs)
+  pub lawful : first_failing (of_days (map day_in (entries_from 1 vs)) 29 0) ≡ None
 
-opened : (w : ℕ) (vs : List ℕ) → first_failing (of_words opening 0 (w ∷ vs)) ≡ None → Opened w vs
+opened : (w : ℕ) (vs : List ℕ) → first_failing (asked (w ∷ vs)) ≡ None → Opened w vs
 unfolding of_words
 opened w vs e =
-    let a = passed (eqb (kind w) 2) _ _ e in
+    let p = none_first _ _ (sym (first_failing-append (of_words opening 0 (w ∷ vs)) (of_days (map day_in (entries_of (w ∷ vs))) 29 0)) ∙ e) in
+    let a = passed (eqb (kind w) 2) _ _ p.0 in
     let b = passed (leb (load w) 100000) _ _ a.1 in
-    record { is_opening = eqb-true (kind w) 2 a.0; in_time = leb-true (load w) 100000 b.0; lines = told 29 0 1 vs refl b.1 }
+    record { is_opening = eqb-true (kind w) 2 a.0; in_time = leb-true (load w) 100000 b.0; lines = told 29 0 1 vs refl b.1; lawful = p.1 }
 
-module _ (w : ℕ) (vs : List ℕ) (o : Opened w vs) (lawful : first_failing (of_days (map day_in (entries_from 1 vs)) 29 0) ≡ None) where
+module _ (w : ℕ) (vs : List ℕ) (o : Opened w vs) where
   es : List Item
   es = entries_from 1 vs
 
@@ -53,7 +55,7 @@ module _ (w : ℕ) (vs : List ℕ) (o : Opened w vs) (lawful : first_failing (of
   told_sound = record {
     dated = o.in_time;
     long = length-map es day_in ∙ t.many;
-    lawful = lawful_from_pass (map day_in es) lawful;
+    lawful = lawful_from_pass (map day_in es) o.lawful;
     ranged = λ k x e. subst (λ n. InRange n x) (zero-add k) (t.fair k x e);
     past = λ k h. get_or_past (map figure_in es) k None (let n = length-map es figure_in in let m = t.many in omega arith);
   }
@@ -70,20 +72,9 @@ module _ (w : ℕ) (vs : List ℕ) (o : Opened w vs) (lawful : first_failing (of
       ap (λ x. x ∷ vs) (of_kind_lem w ∙ ap (λ n. of_kind n (load w)) o.is_opening)
       ∙ ap (λ l. of_kind 2 (load w) ∷ l) (t.words ∙ ap (λ l. l ++ (of_kind 3 (1 + length l) ∷ [])) (sym told_body))
 
-all_pass : (ws : List ℕ) → first_failing (asked ws) ≡ None → Exact ws
-unfolding of_words
-all_pass [] e = absurd (let z : ◌≡◌ {A = ℕ} 0 1 = cc in omega arith)
-all_pass (w ∷ vs) e =
-    let p = none_first _ _ (sym (first_failing-append (of_words opening 0 (w ∷ vs)) (of_days (map day_in (entries_of (w ∷ vs))) 29 0)) ∙ e) in
-    let o = opened w vs p.0 in
-    record { sound = told_sound w vs o p.1; words = told_words w vs o p.1 }
-
 none_from_test : (o : Option Refusal) → not (is_some o) ≡ true → o ≡ None
 none_from_test None e = refl
-none_from_test (Some r) e = absurd (let z : ◌≡◌ {A = ℕ} 0 1 = cc in omega arith)
-
-pub exact : (ws : List ℕ) → accepted ws ≡ true → Exact ws
-exact ws e = all_pass ws (none_from_test (first_failing (asked ws)) e)
+none_from_test (Some r) e = absurd cc
 
 -- an accepted sheet has an opening word, and its lines are told
 abbrev pub OpenedWords : List ℕ → Type 0
@@ -92,16 +83,19 @@ OpenedWords (w ∷ vs) = Opened w vs
 
 pub accepted_opened : (ws : List ℕ) → accepted ws ≡ true → OpenedWords ws
 unfolding of_words
-accepted_opened [] e = absurd (let z : ◌≡◌ {A = ℕ} 0 1 = cc in omega arith)
-accepted_opened (w ∷ vs) e =
-    opened w vs (none_first _ _ (sym (first_failing-append (of_words opening 0 (w ∷ vs)) (of_days (map day_in (entries_of (w ∷ vs))) 29 0)) ∙ none_from_test (first_failing (asked (w ∷ vs))) e)).0
+accepted_opened [] e = absurd cc
+accepted_opened (w ∷ vs) e = opened w vs (none_from_test (first_failing (asked (w ∷ vs))) e)
+
+pub exact : (ws : List ℕ) → accepted ws ≡ true → Exact ws
+exact [] e = absurd (accepted_opened [] e)
+exact (w ∷ vs) e = let o = accepted_opened (w ∷ vs) e in record { sound = told_sound w vs o; words = told_words w vs o }
 
 blank_sound : Sound blank_page
 blank_sound = record {
   dated = omega arith;
   long = refl;
   lawful = lawful_from_bounded blank_days (bounded_from_test blank_days refl);
-  ranged = λ k x e. absurd (let z : ◌≡◌ {A = ℕ} 0 1 = cc in omega arith);
+  ranged = λ k x e. absurd cc;
   past = λ k h. refl;
 }
 

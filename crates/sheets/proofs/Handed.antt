@@ -1,7 +1,9 @@
 -- The first entry of a row of words. Assumes nothing.
 use Rattle.std.proofs.Common.{◌≡◌, ℕ, ◌+◌, ◌*◌, ◌≤◌, true, false, eqb, List, [], ◌∷◌, length, get_or, drop, Some, None, refl, arith}
 use Rattle.sheets.specs.Words.{kind}
-use Rattle.sheets.specs.Entries.{item, entries_from}
+use Rattle.sheets.specs.Entries.{item, entries_from, entries_of}
+use Rattle.sheets.specs.Reader.{left}
+use Rattle.sheets.specs.declared.entry.Entries.{Entries}
 
 pub entries_quoted : (i : ℕ) (ws : List ℕ) → 2 ≤ length ws → eqb (kind (get_or ws 0 0)) 0 ≡ true → eqb (kind (get_or ws 1 0)) 1 ≡ true → entries_from i ws ≡ item i (get_or ws 0 0) (Some (get_or ws 1 0)) ∷ entries_from (i + 2) (drop 2 ws)
 unfolding entries_from
@@ -20,6 +22,10 @@ unfolding entries_from
 entries_none i [] a = refl
 entries_none i (h ∷ []) a = rw (a (omega arith)) refl
 entries_none i (h ∷ f ∷ ws) a = rw (a (omega arith)) refl
+
+-- the entries of words after the first
+pub all_left : (ws : List ℕ) (s : Entries) → s.place ≡ 1 → s.rest.now ≡ drop 1 ws → left s ≡ entries_of ws
+all_left ws s p r = λ i. entries_from (p i) (r i)
 
 pub one_word : (ws : List ℕ) → 1 ≤ length ws → ws ≡ get_or ws 0 0 ∷ drop 1 ws
 one_word [] l = absurd (omega arith)

@@ -7,7 +7,6 @@ mod Fields
 mod Spelled
 mod Exact
 mod Accepted
-mod Sets
 mod Meant
 mod Verdicts
 pub mod Standing

@@ -1,17 +1,18 @@
 -- One line's entry more: what is asked of it, and what it tells.
-use Rattle.std.proofs.Common.{◌≡◌, ℕ, suc, ◌+◌, ◌<◌, Bool, true, false, cond, eqb, List, [], ◌∷◌, ◌++◌, map, length, take, set, ℤ, is_some, Some, None, Option, sym, refl, ap, ◌∙◌, subst, append_assoc, add-one, arith}
+use Rattle.std.proofs.Common.{◌≡◌, ℕ, suc, ◌+◌, ◌<◌, Bool, true, false, cond, eqb, List, [], ◌∷◌, ◌++◌, map, length, take, set, is_some, Some, None, Option, sym, refl, ap, ◌∙◌, subst, append_assoc, add-one, arith}
 use Rattle.std.proofs.lemmas.List.{take_more_set}
 use Rattle.std.proofs.lemmas.Bool.{lt-ltb}
-use Rattle.std.specs.Option.{option_or, option_to_list}
-use Rattle.days.proofs.Asked.{first_failing-append}
+use Rattle.std.specs.Option.{option_to_list}
+use Rattle.sheets.proofs.Due.{refused_first, passed_first}
 use Rattle.days.specs.Questions.{first_failing, refusal}
 use Rattle.days.specs.declared.refusal.Layer.TheVariants.{Sheet}
 use Rattle.days.specs.declared.refusal.Refusal.{Refusal}
 use Rattle.sheets.specs.Asked.{Due, head, closing, line, of_words, of_entry}
-use Rattle.sheets.specs.Entries.{Item, item, entries_from, words_in, day_in, figure_in}
+use Rattle.sheets.specs.Entries.{Item, item, entries_from, words_in}
 use Rattle.sheets.specs.Reader.{left, Hands, ReadSo}
-use Rattle.sheets.specs.Views.{head_of, seen, seen_at}
-use Rattle.sheets.specs.Words.{kind, day_of}
+use Rattle.sheets.specs.Views.{line_told, seen}
+use Rattle.sheets.specs.Words.{kind}
+use Rattle.sheets.specs.declared.checking.Line.{Line}
 use Rattle.sheets.specs.declared.entry.Entries.{Entries}
 use Rattle.sheets.specs.declared.entry.Placed.{Placed}
 
@@ -21,7 +22,7 @@ line_head k h = ap (λ b. cond b (head k) closing) (lt-ltb k 29 h)
 -- what an entry that is the first of the words says of their kinds
 headed : (b : Bool) (l es : List Item) (e : Item) → cond b l [] ≡ e ∷ es → (b ≡ true) × (l ≡ e ∷ es)
 headed true l es e h = (refl, h)
-headed false l es e h = absurd (let z : ◌≡◌ {A = ℕ} 0 1 = cc in omega arith)
+headed false l es e h = absurd cc
 
 abbrev place_first : List Item → ℕ
 place_first [] = 0
@@ -55,7 +56,7 @@ due k i p h (Some f) vs es e =
     rw (a.0, b.0, q, n, b.0)
 
 -- an entry that is handed out where line k is due
-handed : (k : ℕ) (s t : Entries) (x : Placed) → k < 29 → Hands s x t → first_failing (of_words (line k) s.place s.rest.now) ≡ option_or (first_failing (of_entry k (seen x))) (first_failing (of_words (line (suc k)) t.place t.rest.now))
+handed : (k : ℕ) (s t : Entries) (x : Placed) → k < 29 → Hands s x t → first_failing (of_words (line k) s.place s.rest.now) ≡ first_failing (of_entry k (seen x) ++ of_words (line (suc k)) t.place t.rest.now)
 handed k s t x low h =
     let e = seen x in
     let vs = t.rest.now in
@@ -64,11 +65,10 @@ handed k s t x low h =
     ∙ ap (λ (l : List ℕ). first_failing (of_words (head k) s.place l)) h.words
     ∙ due k s.place e.place e.head e.figure vs (left t) first
     ∙ ap (λ (n : ℕ). first_failing (of_entry k e ++ of_words (line (suc k)) n vs)) (sym h.onward)
-    ∙ first_failing-append (of_entry k e) (of_words (line (suc k)) t.place vs)
 
 -- no entry is left where line k is due
 no_head : (b : Bool) (e : Item) (es : List Item) → cond b (e ∷ es) [] ≡ [] → b ≡ false
-no_head true e es h = absurd (let z : ◌≡◌ {A = ℕ} 0 1 = cc in omega arith)
+no_head true e es h = absurd cc
 no_head false e es h = refl
 
 no_head_two : (b c : Bool) (e f : Item) (es fs : List Item) → cond b (cond c (e ∷ es) (f ∷ fs)) [] ≡ [] → b ≡ false
@@ -82,25 +82,20 @@ none_due k i [] e = refl
 none_due k i (h ∷ []) e = rw (no_head (eqb (kind h) 0) _ _ e)
 none_due k i (h ∷ f ∷ ws) e = rw (no_head_two (eqb (kind h) 0) (eqb (kind f) 1) _ _ _ _ e)
 
--- what the entries of a reader tell is what those taken from it told, and those that are left: one entry more
-pub told_more : {A : Type 0} (f : Item → A) (xs : List A) (a : A) (k : ℕ) (es : List Item) (t u : Entries) (x : Placed) → Hands t x u → k < length xs → a ≡ f (seen x) → take k xs ++ map f (left t) ≡ map f es → take (k + 1) (set xs k a) ++ map f (left u) ≡ map f es
-told_more f xs a k es t u x h low is e =
-    ap (λ l. l ++ map f (left u)) (take_more_set xs k a low) ∙ append_assoc (take k xs) (a ∷ []) (map f (left u)) ∙ ap (λ b. take k xs ++ (b ∷ map f (left u))) is
-    ∙ ap (λ l. take k xs ++ map f l) (sym h.first) ∙ e
-
-module _ (k : ℕ) (s t : Entries) (days : List ℕ) (figures : List (Option ℤ)) (low : k < 29) (r : ReadSo k s t days figures) where
+module _ (k : ℕ) (s t : Entries) (lines : List Line) (low : k < 29) (r : ReadSo k s t lines) where
   pub stopped_none : left t ≡ [] → first_failing (of_words (line 0) s.place s.rest.now) ≡ Some (refusal 11 Sheet t.place)
   stopped_none e = sym r.asked ∙ ap (λ (u : Due). first_failing (of_words u t.place t.rest.now)) (line_head k low) ∙ none_due k t.place t.rest.now e
 
   module _ (x : Placed) (u : Entries) (h : Hands t x u) where
     pub stopped : (f : Refusal) → first_failing (of_entry k (seen x)) ≡ Some f → first_failing (of_words (line 0) s.place s.rest.now) ≡ Some f
-    stopped f e = sym r.asked ∙ handed k t u x low h ∙ ap (λ (o : Option Refusal). option_or o (first_failing (of_words (line (suc k)) u.place u.rest.now))) e
+    stopped f e = sym r.asked ∙ handed k t u x low h ∙ refused_first (of_entry k (seen x)) _ f e
 
-    pub read_more : (d : ℕ) (q : Option ℤ) → length days ≡ 29 → length figures ≡ 29 → first_failing (of_entry k (seen x)) ≡ None → d ≡ day_of (head_of x.entry) → q ≡ figure_in (seen_at 0 x.entry) → ReadSo (k + 1) s u (set days k d) (set figures k q)
-    read_more d q many too passes day figure = record {
+    pub read_more : (l : Line) → length lines ≡ 29 → first_failing (of_entry k (seen x)) ≡ None → l ≡ line_told (seen x) → ReadSo (k + 1) s u (set lines k l)
+    read_more l many passes is = record {
       asked =
           ap (λ (n : ℕ). first_failing (of_words (line n) u.place u.rest.now)) (add-one k)
-          ∙ sym (handed k t u x low h ∙ ap (λ (o : Option Refusal). option_or o (first_failing (of_words (line (suc k)) u.place u.rest.now))) passes) ∙ r.asked;
-      days_told = told_more day_in days d k (left s) t u x h (omega arith) day r.days_told;
-      figures_told = told_more figure_in figures q k (left s) t u x h (omega arith) figure r.figures_told;
+          ∙ sym (handed k t u x low h ∙ passed_first (of_entry k (seen x)) _ passes) ∙ r.asked;
+      told =
+          ap (λ l. l ++ map line_told (left u)) (take_more_set lines k l (omega arith)) ∙ append_assoc (take k lines) (l ∷ []) (map line_told (left u)) ∙ ap (λ b. take k lines ++ (b ∷ map line_told (left u))) is
+          ∙ ap (λ l. take k lines ++ map line_told l) (sym h.first) ∙ r.told;
     }

@@ -1,44 +1,44 @@
 -- What a sheet's reading says of the page that it means.
-use Rattle.std.proofs.Common.{◌≡◌, ℕ, true, false, not, List, get_or, is_some, None, Ok, Err, Option, Result, sym, ap, ◌∙◌, subst}
-use base.Stored.{Coded-set, coded_ℕ, coded_list}
+use Rattle.std.proofs.Common.{◌≡◌, ℕ, List, is_ok, IsOkAnd, MatchResult, Ok, Err, Result, sym, ap, ◌∙◌, subst}
+use base.Stored.{Coded-set, coded_ℕ, coded_ℤ, coded_list}
+use Rattle.std.specs.Coded.{coded_option}
+use Rattle.days.specs.contracts.refusal.Refusal.{the_row}
 use Rattle.days.specs.Questions.{refusal_of, first_failing}
-use Rattle.days.specs.declared.refusal.Refusal.{Refusal}
 use Rattle.sources.specs.Page.{Page}
 use Rattle.sheets.specs.Asked.{asked}
 use Rattle.sheets.specs.Kept.{Holds, Kept}
-use Rattle.sheets.specs.Meaning.{accepted, sheet_page}
+use Rattle.sheets.specs.Meaning.{blank_page, accepted, sheet_page}
 use Rattle.sheets.specs.Told.{told_sheet}
 use Rattle.sheets.specs.declared.fault.SheetFault.{SheetFault}
 use Rattle.sheets.specs.declared.reading.Reading.{Reading}
-use Rattle.sheets.proofs.Exact.{means_told}
-use Rattle.sheets.proofs.Sets.{figure_set, told_set}
+use Rattle.sheets.proofs.Exact.{means_told, means_blank}
+use Rattle.sheets.proofs.Verdicts.{ok_is}
 
-abbrev Outcome : Type 0
-Outcome = Result Reading SheetFault
+module _ (ws : List ℕ) where
+  told : (o : Result Reading SheetFault) → ∥ Kept ws o ∥₁ → refusal_of told_sheet o ≡ first_failing (asked ws)
+  told o = ∥∥₁_rec (Coded-set (coded_option the_row.coded) _ _) (λ k. k.told)
 
--- a refusal or none, as the test of the questions has it
-tested : (ws : List ℕ) (o : Option Refusal) → o ≡ first_failing (asked ws) → accepted ws ≡ not (is_some o)
-tested ws o e = ap (λ (u : Option Refusal). not (is_some u)) (sym e)
+  pub tested : (o : Result Reading SheetFault) → ∥ Kept ws o ∥₁ → is_ok o ≡ accepted ws
+  tested o k = ok_is ws o (told o k)
 
-module _ (ws : List ℕ) (o : Outcome) (k : ∥ Kept ws o ∥₁) where
-  pub told : refusal_of told_sheet o ≡ first_failing (asked ws)
-  told = ∥∥₁_rec (told_set _ _) (λ k. k.told) k
+  -- a verdict that is the reading's
+  pub verdict_told : {T : Type 0} (P : Reading → T → Type 0) (o : Result Reading SheetFault) (v : Result T SheetFault) → ∥ Kept ws o ∥₁ → MatchResult o (λ r. IsOkAnd v (P r)) (λ f. v ≡ Err f) → refusal_of told_sheet v ≡ first_failing (asked ws)
+  verdict_told P (Ok r) (Ok x) k is = told (Ok r) k
+  verdict_told P (Ok r) (Err f) k is = absurd is
+  verdict_told P (Err f) v k is = ap (λ (u : Result _ SheetFault). refusal_of told_sheet u) is ∙ told (Err f) k
 
-  pub err_accepted : (f : SheetFault) → o ≡ Err f → accepted ws ≡ false
-  err_accepted f e = tested ws (refusal_of told_sheet o) told ∙ ap (λ (u : Outcome). not (is_some (refusal_of told_sheet u))) e
+  module _ (r : Reading) (k : ∥ Kept ws (Ok r) ∥₁) where
+    holds : Kept ws (Ok r) → Holds (sheet_page ws) r
+    holds k' = subst (λ (p : Page). Holds p r) (sym (means_told ws (sym (tested (Ok r) k)))) k'.page
 
-  module _ (r : Reading) (e : o ≡ Ok r) where
-    pub ok_accepted : accepted ws ≡ true
-    ok_accepted = tested ws (refusal_of told_sheet o) told ∙ ap (λ (u : Outcome). not (is_some (refusal_of told_sheet u))) e
+    all_held : Holds (sheet_page ws) r
+    all_held = record {
+      dated = ∥∥₁_rec (Coded-set coded_ℕ _ _) (λ k'. (holds k').dated) k;
+      tabled = ∥∥₁_rec (Coded-set (coded_list coded_ℕ) _ _) (λ k'. (holds k').tabled) k;
+      shown = λ n. ∥∥₁_rec (Coded-set (coded_option coded_ℤ) _ _) (λ k'. (holds k').shown n) k;
+    }
 
-    holds : Kept ws o → Holds (sheet_page ws) r
-    holds k = subst (λ (p : Page). Holds p r) (sym (means_told ws ok_accepted)) (subst (Kept ws) e k).page
-
-    pub dated : r.valuation ≡ (sheet_page ws).valuation
-    dated = ∥∥₁_rec (Coded-set coded_ℕ _ _) (λ k. (holds k).dated) k
-
-    pub tabled : r.days.days ≡ (sheet_page ws).days
-    tabled = ∥∥₁_rec (Coded-set (coded_list coded_ℕ) _ _) (λ k. (holds k).tabled) k
-
-    pub shown : (n : ℕ) → get_or r.figures n None ≡ (sheet_page ws).figure n
-    shown n = ∥∥₁_rec (figure_set _ _) (λ k. (holds k).shown n) k
+  -- what an accepted sheet's reading tells, or the blank page
+  pub means : {P : SheetFault → Type 0} (o : Result Reading SheetFault) (r : Reading) → ∥ Kept ws o ∥₁ → MatchResult o (λ x. r ≡ x) P → ((f : SheetFault) → P f → Holds blank_page r) → Holds (sheet_page ws) r
+  means (Ok x) r k is blank = subst (λ (q : Reading). Holds (sheet_page ws) q) (sym is) (all_held x k)
+  means (Err f) r k is blank = subst (λ (p : Page). Holds p r) (sym (means_blank ws (sym (tested (Err f) k)))) (blank f is)

@@ -1,5 +1,5 @@
 -- What the days of a sheet are asked. Assumes nothing.
-use Rattle.std.proofs.Common.{◌≡◌, ℕ, zero, suc, ◌+◌, ◌<◌, ◌≤◌, Bool, true, false, cond, List, Some, None, sym, refl, ap, subst, ⊎_elim, arith}
+use Rattle.std.proofs.Common.{◌≡◌, ℕ, zero, suc, ◌+◌, ◌<◌, ◌≤◌, Bool, true, false, cond, List, Some, None, Ok, Err, Result, MatchResult, IsErrAnd, sym, refl, ap, ◌∙◌, subst, ⊎_elim, arith}
 use Rattle.std.proofs.lemmas.Bool.{both_ways, cases_Bool, cases_eq}
 use Rattle.days.proofs.Asked.{passed}
 use Rattle.days.proofs.Rules.{decides_bounded, bounded_from_ruled, ruled_from_bounded}
@@ -8,7 +8,14 @@ use Rattle.days.specs.Days.{Ruled, Lawful, Breach}
 use Rattle.days.specs.Questions.{first_failing, refusal}
 use Rattle.days.specs.declared.refusal.Layer.TheVariants.{Sheet}
 use Rattle.days.specs.declared.refusal.Refusal.{Refusal}
+use Rattle.days.specs.Tabled.{Tabled}
+use Rattle.days.specs.Told.{told_source}
+use Rattle.days.specs.declared.fault.SourceFault.{SourceFault}
+use Rattle.days.specs.declared.table.DayTable.{DayTable}
 use Rattle.sheets.specs.Asked.{of_days}
+use Rattle.sheets.specs.Told.{told_sheet}
+use Rattle.sheets.specs.declared.fault.SheetFault.{SheetFault}
+use Rattle.sheets.specs.declared.fault.SheetFault.TheVariants.{UnlawfulDay}
 
 passes : (d : List ℕ) (k : ℕ) → k < 29 → Ruled d k → bounded d k ≡ true
 passes d k h r = (decides_bounded d k).1 (bounded_from_ruled d k h r)
@@ -30,6 +37,16 @@ breach_told d j b (suc n) k h l =
     (λ (e : k ≡ j). subst (λ i. first_failing (of_days d (suc n) i) ≡ Some (refusal 15 Sheet j)) (sym e) (rw (fails d j b.fails)))
     (λ (n' : k ≡ j → ⊥). rw (passes d k (omega (arith, b.place)) (b.before k (omega arith))) (breach_told d j b n (suc k) (omega arith) (omega arith)))
     (cases_eq k j)
+
+-- a table whose refusal is told as the sheet's own, at the same line
+pub told_as_own : {P : SourceFault → SheetFault → Type 0} (d : List ℕ) (r : Result DayTable SourceFault) (u : Result DayTable SheetFault) → ((f : SourceFault) (g : SheetFault) → P f g → g ≡ UnlawfulDay (told_source f).place) → Tabled d r → MatchResult r (λ t. u ≡ Ok t) (λ f. IsErrAnd u (P f)) → MatchResult u (λ t. (t.days ≡ d) × (first_failing (of_days d 29 0) ≡ None)) (λ f. first_failing (of_days d 29 0) ≡ Some (told_sheet f))
+told_as_own d (Ok t) u own made is =
+    subst (λ (v : Result DayTable SheetFault). MatchResult v (λ t. (t.days ≡ d) × (first_failing (of_days d 29 0) ≡ None)) (λ f. first_failing (of_days d 29 0) ≡ Some (told_sheet f))) (sym is)
+    (made.0, lawful_passes d made.1 29 0 (omega arith))
+told_as_own d (Err f) (Ok t) own breach is = absurd is
+told_as_own d (Err f) (Err g) own breach is =
+    breach_told d breach.0 breach.2 29 0 (omega arith) (omega (arith, breach.2.place))
+    ∙ ap (λ (h : SheetFault). Some (told_sheet h)) (sym (own f g is ∙ ap (λ (r : Refusal). UnlawfulDay r.place) breach.1))
 
 ruled_from_pass : (d : List ℕ) (n k : ℕ) → first_failing (of_days d n k) ≡ None → (j : ℕ) → k ≤ j → j < k + n → Ruled d j
 unfolding of_days
@@ -70,7 +87,7 @@ lowest_here d n k j false is low e onward =
 
 lowest_from : (d : List ℕ) (n k j : ℕ) → k + n ≤ 29 → first_failing (of_days d n k) ≡ Some (refusal 15 Sheet j) → LowestFrom d n k j
 unfolding of_days
-lowest_from d zero k j l e = absurd (let z : ◌≡◌ {A = ℕ} 0 1 = cc in omega arith)
+lowest_from d zero k j l e = absurd cc
 lowest_from d (suc n) k j l e = lowest_here d n k j (bounded d k) refl (omega arith) e (lowest_from d n (suc k) j (omega arith))
 
 pub told_breach : (d : List ℕ) (j : ℕ) → first_failing (of_days d 29 0) ≡ Some (refusal 15 Sheet j) → Breach d j

@@ -6,8 +6,8 @@ use Rattle.days.specs.Days.{Breach}
 use Rattle.days.specs.Questions.{Question, refusal, refusal_of, first_failing}
 use Rattle.days.specs.declared.refusal.Layer.TheVariants.{Sheet}
 use Rattle.days.specs.declared.refusal.Refusal.{Refusal}
-use Rattle.sources.specs.Page.{Page, Sound}
 use Rattle.sheets.specs.Asked.{Due, opening, head, figure, closing, end, next, of_word, of_none, of_words, of_days, asked}
+use Rattle.sheets.specs.Checked.{Checked}
 use Rattle.sheets.specs.Encoding.{words_of}
 use Rattle.sheets.specs.Meaning.{accepted, told_page, sheet_page}
 use Rattle.sheets.specs.Told.{told_sheet}
@@ -17,32 +17,8 @@ use Rattle.sheets.proofs.Exact.{exact, sheet_sound, means_told}
 use Rattle.sheets.proofs.Tabled.{told_breach}
 
 -- an accepted sheet is the words of the page that it means
-pub own_words : (ws : List ℕ) → accepted ws ≡ true → ws ≡ words_of (sheet_page ws)
+own_words : (ws : List ℕ) → accepted ws ≡ true → ws ≡ words_of (sheet_page ws)
 own_words ws e = (exact ws e).words ∙ ap words_of (sym (means_told ws e))
-
-module _ {T : Type 0} (ws : List ℕ) where
-  ok_is : (r : Result T SheetFault) → refusal_of told_sheet r ≡ first_failing (asked ws) → is_ok r ≡ accepted ws
-  ok_is (Ok x) e = ap (λ (o : Option Refusal). not (is_some o)) e
-  ok_is (Err f) e = ap (λ (o : Option Refusal). not (is_some o)) e
-
-  pub exact_words : (r : Result T SheetFault) → refusal_of told_sheet r ≡ first_failing (asked ws) → IfOk r (λ _. ws ≡ words_of (sheet_page ws))
-  exact_words (Ok x) e = own_words ws (sym (ok_is (Ok x) e))
-  exact_words (Err f) e = tt
-
-  pub sound_page : (r : Result T SheetFault) → IfOk r (λ _. Sound (sheet_page ws))
-  sound_page (Ok x) = sheet_sound ws
-  sound_page (Err f) = tt
-
-  pub in_size : (r : Result T SheetFault) → refusal_of told_sheet r ≡ first_failing (asked ws) → IfOk r (λ _. (31 ≤ length ws) × (length ws ≤ 60))
-  in_size (Ok x) e = subst (λ (l : List ℕ). (31 ≤ length l) × (length l ≤ 60)) (sym (own_words ws (sym (ok_is (Ok x) e)))) (sheet_size (sheet_page ws))
-  in_size (Err f) e = tt
-
-  pub every_page : (r : Result T SheetFault) → refusal_of told_sheet r ≡ first_failing (asked ws) → (p : Page) → Sound p → ws ≡ words_of p → (is_ok r ≡ true) × (sheet_page ws ≡ p)
-  every_page r e p s w = (ok_is r e ∙ ap accepted w ∙ words_accepted p s, ap sheet_page w ∙ words_mean p s)
-
-  pub one_sheet : (r : Result T SheetFault) → refusal_of told_sheet r ≡ first_failing (asked ws) → IfOk r (λ _. (vs : List ℕ) → accepted vs ≡ true → sheet_page vs ≡ sheet_page ws → vs ≡ ws)
-  one_sheet (Ok x) e = λ vs a same. own_words vs a ∙ ap words_of same ∙ sym (own_words ws (sym (ok_is (Ok x) e)))
-  one_sheet (Err f) e = tt
 
 -- a question about a word tells a number below 15
 abbrev Below : List Question → Type 0
@@ -77,7 +53,7 @@ first_below true q r o a onward e = onward e
 first_below false q r o a onward e = let z : q ≡ r = cc in subst (λ (x : Refusal). x.number < 15) z a
 
 told_below : (qs : List Question) (r : Refusal) → Below qs → first_failing qs ≡ Some r → r.number < 15
-told_below [] r a e = absurd (let z : ◌≡◌ {A = ℕ} 0 1 = cc in omega arith)
+told_below [] r a e = absurd cc
 told_below (q ∷ qs) r a e = first_below q.passes q.otherwise r (first_failing qs) a.0 (told_below qs r a.1) e
 
 -- so that a refusal 15 is one of the days
@@ -85,9 +61,32 @@ by_days : (o u : Option Refusal) (k : ℕ) → ((r : Refusal) → o ≡ Some r �
 by_days None u k b e = e
 by_days (Some r) u k b e = let z : r ≡ refusal 15 Sheet k = cc in absurd (let n = b r refl in let m = ap (λ (x : Refusal). x.number) z in omega arith)
 
-pub breach_told : {T : Type 0} (ws : List ℕ) (r : Result T SheetFault) → refusal_of told_sheet r ≡ first_failing (asked ws) → IfErr r (λ f. (k : ℕ) → told_sheet f ≡ refusal 15 Sheet k → Breach (told_page ws).days k)
-breach_told ws (Ok x) e = tt
-breach_told ws (Err f) e = λ k is.
-    told_breach (told_page ws).days k
-    (by_days (first_failing (of_words opening 0 ws)) (first_failing (of_days (told_page ws).days 29 0)) k (λ r. told_below (of_words opening 0 ws) r (below_words opening 0 ws))
-    (sym (first_failing-append (of_words opening 0 ws) (of_days (told_page ws).days 29 0)) ∙ sym e ∙ ap Some is))
+module _ {T : Type 0} (ws : List ℕ) where
+  pub ok_is : (r : Result T SheetFault) → refusal_of told_sheet r ≡ first_failing (asked ws) → is_ok r ≡ accepted ws
+  ok_is (Ok x) e = ap (λ (o : Option Refusal). not (is_some o)) e
+  ok_is (Err f) e = ap (λ (o : Option Refusal). not (is_some o)) e
+
+  breach_told : (r : Result T SheetFault) → refusal_of told_sheet r ≡ first_failing (asked ws) → IfErr r (λ f. (k : ℕ) → told_sheet f ≡ refusal 15 Sheet k → Breach (told_page ws).days k)
+  breach_told (Ok x) e = tt
+  breach_told (Err f) e = λ k is.
+      told_breach (told_page ws).days k
+      (by_days (first_failing (of_words opening 0 ws)) (first_failing (of_days (told_page ws).days 29 0)) k (λ r. told_below (of_words opening 0 ws) r (below_words opening 0 ws))
+      (sym (first_failing-append (of_words opening 0 ws) (of_days (told_page ws).days 29 0)) ∙ sym e ∙ ap Some is))
+
+  if_ok : {P : Type 0} (r : Result T SheetFault) → (is_ok r ≡ true → P) → IfOk r (λ _. P)
+  if_ok (Ok x) p = p refl
+  if_ok (Err f) p = tt
+
+  pub checked : (r : Result T SheetFault) → refusal_of told_sheet r ≡ first_failing (asked ws) → Checked ws r
+  checked r e = record {
+    answer = e;
+    breach = breach_told r e;
+    sound = if_ok r (λ _. sheet_sound ws);
+    exact = if_ok r own;
+    size = if_ok r (λ ok. subst (λ (l : List ℕ). (31 ≤ length l) × (length l ≤ 60)) (sym (own ok)) (sheet_size (sheet_page ws)));
+    one = if_ok r (λ ok vs a same. own_words vs a ∙ ap words_of same ∙ sym (own ok));
+    every = λ p s w. (ok_is r e ∙ ap accepted w ∙ words_accepted p s, ap sheet_page w ∙ words_mean p s);
+  }
+    where
+      own : is_ok r ≡ true → ws ≡ words_of (sheet_page ws)
+      own ok = own_words ws (sym (ok_is r e) ∙ ok)

@@ -1,11 +1,12 @@
 -- What a reader of entries hands out. Assumes nothing.
-use Rattle.std.specs.Prelude.{◌≡◌, ℕ, ◌+◌, ◌*◌, true, false, List, [], ◌∷◌, ◌++◌, map, length, take, ℤ, Some, None, Option}
+use Rattle.std.specs.Prelude.{◌≡◌, ℕ, ◌+◌, ◌*◌, true, false, List, [], ◌∷◌, ◌++◌, map, length, take, Some, None, Option}
 use Rattle.std.specs.Borrow.{Bor}
-use Rattle.sheets.specs.Entries.{Item, entries_from, words_in, day_in, figure_in, AllOf}
+use Rattle.sheets.specs.Entries.{Item, entries_from, words_in, AllOf}
 use Rattle.sheets.specs.Meaning.{accepted, sheet_entries}
 use Rattle.days.specs.Questions.{first_failing}
 use Rattle.sheets.specs.Asked.{line, of_words}
-use Rattle.sheets.specs.Views.{seen}
+use Rattle.sheets.specs.Views.{seen, line_told}
+use Rattle.sheets.specs.declared.checking.Line.{Line}
 use Rattle.sheets.specs.declared.entry.Entries.{Entries}
 use Rattle.sheets.specs.declared.entry.Entry.{Entry}
 use Rattle.sheets.specs.declared.entry.Entry.TheVariants.{Bare, Quoted}
@@ -49,8 +50,7 @@ pub record ReaderOf (ws : Bor (List ℕ)) (s : Entries) : Type 0 where
   pub none : accepted ws.now ≡ false → left s ≡ []
   pub lent : accepted ws.now ≡ true → ReadsFrom ws s
 
--- the n lines that are read between the readers s and t have these days and figures, and what is left to ask is what was
-pub record ReadSo (n : ℕ) (s t : Entries) (days : List ℕ) (figures : List (Option ℤ)) : Type 0 where
+-- the n lines that are read between the readers s and t are these, and what is left to ask is what was
+pub record ReadSo (n : ℕ) (s t : Entries) (lines : List Line) : Type 0 where
   pub asked : first_failing (of_words (line n) t.place t.rest.now) ≡ first_failing (of_words (line 0) s.place s.rest.now)
-  pub days_told : take n days ++ map day_in (left t) ≡ map day_in (left s)
-  pub figures_told : take n figures ++ map figure_in (left t) ≡ map figure_in (left s)
+  pub told : take n lines ++ map line_told (left t) ≡ map line_told (left s)

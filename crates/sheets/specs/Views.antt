@@ -1,6 +1,7 @@
 -- What the code's entries and kinds stand for. Assumes nothing.
 use Rattle.std.specs.Prelude.{ℕ, Some, None, Option}
-use Rattle.sheets.specs.Entries.{Item, item}
+use Rattle.sheets.specs.Entries.{Item, item, day_in, figure_in}
+use Rattle.sheets.specs.declared.checking.Line.{Line}
 use Rattle.sheets.specs.declared.entry.Entry.{Entry}
 use Rattle.sheets.specs.declared.entry.Entry.TheVariants.{Bare, Quoted}
 use Rattle.sheets.specs.declared.entry.Placed.{Placed}
@@ -28,3 +29,7 @@ seen_at i e = item i (head_of e) (figure_word_of e)
 
 abbrev pub seen : Placed → Item
 seen x = seen_at x.place x.entry
+
+-- what an item tells of its line
+abbrev pub line_told : Item → Line
+line_told e = record { day = day_in e; figure = figure_in e }

@@ -1,15 +1,13 @@
 // How a sheet is read: word by word, and then its days.
-ghost use Rattle.std.specs.Prelude.{◌≡◌, ◌+◌, ◌^◌, ◌<◌, length, if◌then◌else◌, Some, None, MatchResult, nat_lt};
-ghost use Rattle.days.specs.Questions.{refusal, refusal_of, first_failing};
-ghost use Rattle.days.specs.declared.refusal.Layer.TheVariants.{Sheet};
-ghost use Rattle.sheets.specs.Asked.{line as line_due, opening as opening_due, closing as closing_due, of_word, of_entry, of_words, of_days};
-ghost use Rattle.sheets.specs.Kept.{AfterOpening, Kept};
+ghost use Rattle.std.specs.Prelude.{◌≡◌, ◌+◌, ◌^◌, ◌<◌, None};
+ghost use Rattle.days.specs.Questions.{refusal_of, first_failing};
+ghost use Rattle.sheets.specs.Asked.{line as line_due, opening as opening_due, closing as closing_due, of_entry, of_words, of_days};
+ghost use Rattle.sheets.specs.Kept.{Step, AfterOpening, Kept};
 ghost use Rattle.sheets.specs.Reader.{ReadSo};
 ghost use Rattle.sheets.specs.Told.{told_sheet};
-ghost use Rattle.sheets.specs.Views.{seen_at};
-ghost use Rattle.sheets.specs.Words.{load};
+ghost use Rattle.sheets.specs.Views.{seen};
 
-use crate::entry::{Entries, Entry, Placed};
+use crate::entry::{Entries, Placed};
 use crate::fault::SheetFault;
 use crate::reading::Reading;
 use crate::word::{Kind, load_of};
@@ -18,131 +16,104 @@ use days::refusal::Refusal;
 use days::table::DayTable;
 use sources::source::LAST_VALUATION_DAY;
 
-// What the opening word tells, and the words after it.
-struct Opened<'a> {
-    valuation: u32,
-    rest: &'a [u32],
-}
-
-// The valuation day of an opening word.
-fn valuation_day(opening: u32) -> Result<u32, SheetFault>
-    ensures { MatchResult result (λ v. (v ≡ load opening) × (first_failing (of_word opening_due 0 opening) ≡ None)) (λ f. first_failing (of_word opening_due 0 opening) ≡ Some (told_sheet f)) }
+// The valuation day that the opening word tells.
+fn valuation_day(words: &[u32]) -> Result<u32, SheetFault>
+    ensures { Step result (AfterOpening words.now) (of_words opening_due 0 words.now) }
 {
-    if !Kind::Opening.is_of(opening) {
-        return Err(SheetFault::NotDue { word: 0 });
-    }
-    let valuation = load_of(opening);
-    if valuation > LAST_VALUATION_DAY {
-        return Err(SheetFault::OutOfRange { word: 0 });
-    }
-    Ok(valuation)
-}
-
-fn open_sheet<'a>(words: &'a [u32]) -> Result<Opened<'a>, SheetFault>
-    ensures { MatchResult result (λ o. AfterOpening words.now o.valuation o.rest.now) (λ f. first_failing (of_words opening_due 0 words.now) ≡ Some (told_sheet f)) }
-{
-    let [opening, rest @ ..] = words else {
-        return Err(SheetFault::NotDue { word: 0 });
-    };
-    let valuation = valuation_day(*opening)?;
-    Ok(Opened { valuation, rest })
-}
-
-// Is it the entry of this line, with its figure in range?
-fn ask_entry(entry: &Entry<'_>, line: usize, place: usize) -> Result<(), SheetFault>
-    requires { (line < 29) × (place + 1 < 2 ^ 64) }
-    ensures { refusal_of told_sheet result ≡ first_failing (of_entry line (seen_at place entry.now)) }
-{
-    if entry.line() != line || entry.spare() != 0 {
-        return Err(SheetFault::WrongHead { word: place });
-    }
-    match entry.figure() {
-        Some(figure) if !in_range(line, figure) => Err(SheetFault::OutOfRange { word: place + 1 }),
-        _ => Ok(()),
+    match words {
+        [] => Err(SheetFault::NotDue { word: 0 }),
+        [opening, ..] if Kind::of(*opening) != Kind::Opening => {
+            Err(SheetFault::NotDue { word: 0 })
+        }
+        [opening, ..] if load_of(*opening) > LAST_VALUATION_DAY => {
+            Err(SheetFault::OutOfRange { word: 0 })
+        }
+        [opening, ..] => Ok(load_of(*opening)),
     }
 }
 
-// Is it the closing word, with the right count?
-fn ask_count(closing: u32, place: usize) -> Result<(), SheetFault>
-    ensures { refusal_of told_sheet result ≡ first_failing (of_word closing_due place closing) }
-{
-    if !Kind::Closing.is_of(closing) {
-        return Err(SheetFault::NotDue { word: place });
-    }
-    if load_of(closing) as usize != place {
-        return Err(SheetFault::OutOfRange { word: place });
-    }
-    Ok(())
-}
-
-// Is there nothing after the closing word?
-fn ask_end(after: &[u32], place: usize) -> Result<(), SheetFault>
-    ensures { refusal_of told_sheet result ≡ (if nat_lt (length after.now) 1 then None else Some (refusal 14 Sheet place)) }
-{
-    match after {
-        [] => Ok(()),
-        _ => Err(SheetFault::Surplus { word: place }),
+impl Placed<'_> {
+    // Is it the entry of this line, with its figure in range?
+    fn ask(&self, line: usize) -> Result<(), SheetFault>
+        requires line { line < 29 }
+        requires figure { self.now.place + 1 < 2 ^ 64 }
+        ensures { refusal_of told_sheet result ≡ first_failing (of_entry line (seen self.now)) }
+    {
+        let Placed { place, entry } = *self;
+        if entry.line() != line || entry.spare() != 0 {
+            return Err(SheetFault::WrongHead { word: place });
+        }
+        if entry.figure().is_some_and(|figure| !in_range(line, figure)) {
+            return Err(SheetFault::OutOfRange { word: place + 1 });
+        }
+        Ok(())
     }
 }
 
-// Is the closing word there, and nothing after it?
-fn ask_closing(words: &[u32], place: usize) -> Result<(), SheetFault>
-    requires { place + length words.now < 2 ^ 64 }
-    ensures { refusal_of told_sheet result ≡ first_failing (of_words closing_due place words.now) }
-{
-    let [closing, after @ ..] = words else {
-        return Err(SheetFault::NotDue { word: place });
-    };
-    ask_count(*closing, place)?;
-    ask_end(after, place + 1)
+// What the sheet tells of a line.
+#[derive(Clone, Copy, Default)]
+pub(crate) struct Line {
+    pub(crate) day: u32,
+    pub(crate) figure: Option<i32>,
 }
 
-// The days and figures of the 29 lines.
-struct Body {
-    days: [u32; 29],
-    figures: [Option<i32>; 29],
-}
-
-// Takes each line's entry in its order.
-fn read_lines(entries: &mut Entries<'_>) -> Result<Body, SheetFault>
-    ensures { MatchResult result (λ b. ReadSo 29 entries.old entries.new b.days b.figures) (λ f. first_failing (of_words (line_due 0) entries.old.place entries.old.rest.now) ≡ Some (told_sheet f)) }
-{
-    let mut days = [0; LINES];
-    let mut figures = [None; LINES];
-    for line in 0..LINES {
-        let Some(Placed { place, entry }) = entries.next() else {
-            return Err(SheetFault::NotDue {
-                word: entries.place,
-            });
-        };
-        ask_entry(&entry, line, place)?;
-        days[line] = entry.day();
-        figures[line] = entry.figure();
+impl Entries<'_> {
+    // Takes each line's entry in its order.
+    fn read_lines(&mut self) -> Result<[Line; LINES], SheetFault>
+        ensures { Step result (ReadSo 29 self.old self.new) (of_words (line_due 0) self.old.place self.old.rest.now) }
+    {
+        let mut lines = [Line::default(); LINES];
+        for line in 0..LINES {
+            let Some(placed) = self.next() else {
+                return Err(SheetFault::NotDue { word: self.place });
+            };
+            placed.ask(line)?;
+            lines[line] = Line {
+                day: placed.entry.day(),
+                figure: placed.entry.figure(),
+            };
+        }
+        Ok(lines)
     }
-    Ok(Body { days, figures })
+
+    // Is the closing word there, with the right count, and nothing after it?
+    fn ask_closing(&self) -> Result<(), SheetFault>
+        ensures { refusal_of told_sheet result ≡ first_failing (of_words closing_due self.now.place self.now.rest.now) }
+    {
+        let word = self.place;
+        match self.rest {
+            [] => Err(SheetFault::NotDue { word }),
+            [closing, ..] if Kind::of(*closing) != Kind::Closing => {
+                Err(SheetFault::NotDue { word })
+            }
+            [closing, ..] if load_of(*closing) as usize != word => {
+                Err(SheetFault::OutOfRange { word })
+            }
+            [_] => Ok(()),
+            [_, _, ..] => Err(SheetFault::Surplus { word: word + 1 }),
+        }
+    }
 }
 
 // The table of these days; its refusal is told as the sheet's own.
-fn day_table(days: [u32; 29]) -> Result<DayTable, SheetFault>
-    ensures { MatchResult result (λ t. (t.days ≡ days) × (first_failing (of_days days 29 0) ≡ None)) (λ f. first_failing (of_days days 29 0) ≡ Some (told_sheet f)) }
+fn day_table(days: [u32; LINES]) -> Result<DayTable, SheetFault>
+    ensures { Step result (λ t. (t.days ≡ days) × (first_failing (of_days days 29 0) ≡ None)) (of_days days 29 0) }
 {
-    match DayTable::new(days) {
-        Ok(table) => Ok(table),
-        Err(fault) => Err(SheetFault::UnlawfulDay {
-            line: Refusal::from(fault).place,
-        }),
-    }
+    DayTable::new(days).map_err(|fault| SheetFault::UnlawfulDay {
+        line: Refusal::from(fault).place,
+    })
 }
 
 // What the words of a sheet tell, or why they are refused.
 pub(crate) fn read_words(words: &[u32]) -> Result<Reading, SheetFault>
     ensures { Kept words.now result }
 {
-    let Opened { valuation, rest } = open_sheet(words)?;
-    let mut entries = Entries { rest, place: 1 };
-    let Body { days, figures } = read_lines(&mut entries)?;
-    ask_closing(entries.rest, entries.place)?;
-    let days = day_table(days)?;
+    let valuation = valuation_day(words)?;
+    let mut entries = Entries::after_opening(words);
+    let lines = entries.read_lines()?;
+    entries.ask_closing()?;
+    let days = day_table(lines.map(|line| line.day))?;
+    let figures = lines.map(|line| line.figure);
     Ok(Reading {
         valuation,
         days,

@@ -1,21 +1,20 @@
 // What an entry tells, and how entries are handed out.
-ghost use Rattle.std.specs.Prelude.{◌≡◌, length};
+ghost use Rattle.std.specs.Prelude.{◌≡◌, ◌≤◌, length, drop};
 ghost use Rattle.sheets.specs.Words.{line_of, spare_of, day_of};
 ghost use Rattle.sheets.specs.Entries.{figure_in};
 ghost use Rattle.sheets.specs.Views.{head_of, seen_at};
-ghost use Rattle.sheets.specs.Reader.{Steps};
+ghost use Rattle.sheets.specs.Reader.{Steps, ReadsFrom};
 ghost use Rattle.std.specs.Iterator.{at_most};
 
 use crate::entry::{Entries, Entry, Placed};
 use crate::word::{Kind, day_of, figure_of, line_of, spare_of};
 
-impl<'a> Entry<'a> {
+impl Entry<'_> {
     fn head(&self) -> u32
         ensures { result ≡ head_of self.now }
     {
         match self {
-            Entry::Bare { head } => **head,
-            Entry::Quoted { head, .. } => **head,
+            Entry::Bare { head } | Entry::Quoted { head, .. } => **head,
         }
     }
 
@@ -51,6 +50,21 @@ impl<'a> Entry<'a> {
     }
 }
 
+impl<'a> Entries<'a> {
+    // The entries of words that follow an opening word.
+    pub(crate) fn after_opening(words: &'a [u32]) -> Entries<'a>
+        ensures place { result.place ≡ 1 }
+        ensures rest { result.rest.now ≡ drop 1 words.now }
+        ensures lent { 1 ≤ length words.now → ReadsFrom words.entry result }
+    {
+        let rest = match words {
+            [_, rest @ ..] => rest,
+            [] => words,
+        };
+        Entries { rest, place: 1 }
+    }
+}
+
 impl<'a> Iterator for Entries<'a> {
     type Item = Placed<'a>;
 
@@ -62,13 +76,14 @@ impl<'a> Iterator for Entries<'a> {
     fn next(&mut self) -> Option<Placed<'a>> {
         let place = self.place;
         match self.rest {
-            [head, figure, rest @ ..] if Kind::Head.is_of(*head) && Kind::Figure.is_of(*figure) => {
+            [head, figure, rest @ ..]
+                if Kind::of(*head) == Kind::Head && Kind::of(*figure) == Kind::Figure => {
                 self.place = place + 2;
                 self.rest = rest;
                 let entry = Entry::Quoted { head, figure };
                 Some(Placed { place, entry })
             }
-            [head, rest @ ..] if Kind::Head.is_of(*head) => {
+            [head, rest @ ..] if Kind::of(*head) == Kind::Head => {
                 self.place = place + 1;
                 self.rest = rest;
                 let entry = Entry::Bare { head };

@@ -1,16 +1,15 @@
 // What a sheet means: as a quote source, and entry by entry.
-ghost use Rattle.std.specs.Prelude.{◌≡◌, ◌≤◌, length};
-ghost use Rattle.days.specs.Questions.{refusal_of, first_failing};
-ghost use Rattle.sheets.specs.Asked.{asked};
+ghost use Rattle.std.specs.Prelude.{◌≡◌};
 ghost use Rattle.sheets.specs.Checked.{Checked};
-ghost use Rattle.sheets.specs.Entries.{entries_of};
+ghost use Rattle.sheets.specs.Kept.{Holds};
 ghost use Rattle.sheets.specs.Meaning.{sheet_page};
-ghost use Rattle.sheets.specs.Reader.{left, ReadsFrom, ReaderOf};
-ghost use Rattle.sheets.specs.Told.{told_sheet};
+ghost use Rattle.sheets.specs.Reader.{ReaderOf};
+ghost use Rattle.sources.specs.Page.{Sound};
 
 use crate::checking::read_words;
 use crate::entry::Entries;
 use crate::fault::SheetFault;
+use crate::reading::Reading;
 use crate::sheet::Sheet;
 use days::table::DayTable;
 use sources::source::QuoteSource;
@@ -26,72 +25,47 @@ impl<'a> Sheet<'a> {
         }
     }
 
-    fn verdict(&self) -> Result<(), SheetFault>
-        ensures { refusal_of told_sheet result ≡ first_failing (asked self.now.words.now) }
-    {
-        match self.outcome {
-            Ok(_) => Ok(()),
-            Err(fault) => Err(fault),
-        }
-    }
-
     // Accepts the sheet if it is the words of a sound page, which it then means; tells the first question that fails otherwise.
     pub fn check(&self) -> Result<(), SheetFault>
         ensures { Checked self.now.words.now result }
     {
-        self.verdict()
+        self.outcome.map(|_| ())
     }
 
     // Its entries, one for each line in order; a refused sheet has none.
     pub fn entries(&self) -> Entries<'a>
         ensures { ReaderOf self.now.words result }
     {
-        let Ok(_) = self.outcome else {
-            return Entries {
-                rest: &[],
-                place: 0,
-            };
+        let words = if self.outcome.is_ok() {
+            self.words
+        } else {
+            &[]
         };
-        after_opening(self.words)
+        Entries::after_opening(words)
+    }
+
+    // What it tells; a refused sheet tells the blank page.
+    fn reading(&self) -> Reading
+        ensures told { Holds (sheet_page self.now.words.now) result }
+        ensures sound { Sound (sheet_page self.now.words.now) }
+    {
+        self.outcome.unwrap_or_else(|_| Reading::blank())
     }
 }
 
-// The entries of words that follow an opening word.
-fn after_opening<'a>(words: &'a [u32]) -> Entries<'a>
-    ensures entries { left result ≡ entries_of words.now }
-    ensures lent { 1 ≤ length words.now → ReadsFrom words.entry result }
-{
-    let [_, rest @ ..] = words else {
-        return Entries {
-            rest: words,
-            place: 0,
-        };
-    };
-    Entries { rest, place: 1 }
-}
-
-impl<'a> QuoteSource for Sheet<'a> {
+impl QuoteSource for Sheet<'_> {
     // A refused sheet means the blank page.
     ghost page = { λ s. sheet_page s.words.now };
 
     fn valuation_day(&self) -> u32 {
-        match self.outcome {
-            Ok(reading) => reading.valuation,
-            Err(_) => 0,
-        }
+        self.reading().valuation
     }
 
     fn days(&self) -> DayTable {
-        match self.outcome {
-            Ok(reading) => reading.days,
-            Err(_) => DayTable::blank(),
-        }
+        self.reading().days
     }
 
     fn figure(&self, line: usize) -> Option<i32> {
-        match self.outcome {
-            Ok(reading) => reading.figure(line),
-            Err(_) => None,
-        }
+        self.reading().figure(line)
     }
 }

@@ -1,5 +1,7 @@
-// What an accepted sheet tells.
-ghost use Rattle.std.specs.Prelude.{◌≡◌, length, None, slice_index_or};
+// What reading a sheet gives.
+ghost use Rattle.std.specs.Prelude.{◌≡◌, None, slice_index_or};
+ghost use Rattle.sheets.specs.Kept.{Holds};
+ghost use Rattle.sheets.specs.Meaning.{blank_page};
 
 use days::lines::LINES;
 use days::table::DayTable;
@@ -8,19 +10,25 @@ use days::table::DayTable;
 pub(crate) struct Reading {
     pub(crate) valuation: u32,
     pub(crate) days: DayTable,
-    pub(crate) figures: [Option<i32>; 29],
-    ghost long: { length figures ≡ 29 },
+    pub(crate) figures: [Option<i32>; LINES],
 }
 
 impl Reading {
+    // What the blank page tells.
+    pub(crate) fn blank() -> Reading
+        ensures { Holds blank_page result }
+    {
+        Reading {
+            valuation: 0,
+            days: DayTable::blank(),
+            figures: [None; LINES],
+        }
+    }
+
     // A line's figure, or nothing; nothing above line 28.
     pub(crate) fn figure(&self, line: usize) -> Option<i32>
         ensures { result ≡ slice_index_or self.now.figures line None }
     {
-        if line < LINES {
-            self.figures[line]
-        } else {
-            None
-        }
+        *self.figures.get(line)?
     }
 }

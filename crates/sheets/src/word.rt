@@ -1,10 +1,10 @@
 // The fields of a sheet's words.
-ghost use Rattle.std.specs.Prelude.{◌≡◌, ◌==◌};
+ghost use Rattle.std.specs.Prelude.{◌≡◌, ◌/◌, ◌%◌, ◌^◌, ◌<◌};
 ghost use Rattle.sheets.specs.Words.{kind, load, line_of, spare_of, day_of, figure_of};
 ghost use Rattle.sheets.specs.Views.{kind_number};
 
-// What a word is for, by the number in its top two bits.
-#[derive(Clone, Copy)]
+// What a word is for.
+#[derive(Clone, Copy, Debug, PartialEq, Eq)]
 pub(crate) enum Kind {
     Head,
     Figure,
@@ -13,39 +13,54 @@ pub(crate) enum Kind {
 }
 
 impl Kind {
-    pub(crate) fn is_of(self, word: u32) -> bool
-        ensures { result ≡ (kind word == kind_number self) }
+    // A word's kind, by the number in its top two bits.
+    pub(crate) fn of(word: u32) -> Kind
+        ensures { kind_number result ≡ kind word }
     {
-        word >> 30 == self as u32
+        match word >> 30 {
+            0 => Kind::Head,
+            1 => Kind::Figure,
+            2 => Kind::Opening,
+            _ => Kind::Closing,
+        }
     }
+}
+
+// The field of so many bits, from bit `low` up.
+fn bits(word: u32, low: u32, count: u32) -> u32
+    requires low { low < 32 }
+    requires count { count < 32 }
+    ensures { result ≡ word / 2 ^ low % 2 ^ count }
+{
+    (word >> low) % (1 << count)
 }
 
 // The thirty bits below the kind.
 pub(crate) fn load_of(word: u32) -> u32
     ensures { result ≡ load word }
 {
-    word % 0x4000_0000
+    bits(word, 0, 30)
 }
 
 // The line that a head tells.
 pub(crate) fn line_of(head: u32) -> usize
     ensures { result ≡ line_of head }
 {
-    ((head >> 24) % 64) as usize
+    bits(head, 24, 6) as usize
 }
 
 // The bits of a head that tell nothing.
 pub(crate) fn spare_of(head: u32) -> u32
     ensures { result ≡ spare_of head }
 {
-    (head >> 16) % 256
+    bits(head, 16, 8)
 }
 
 // The day that a head tells.
 pub(crate) fn day_of(head: u32) -> u32
     ensures { result ≡ day_of head }
 {
-    head % 0x1_0000
+    bits(head, 0, 16)
 }
 
 // By how much a figure of forward points is raised.

@@ -6,15 +6,13 @@ use Rattle.sheets.specs.Reader.{address, ReadsFrom}
 use Rattle.sheets.specs.declared.entry.Entries.{Entries}
 use Rattle.sheets.proofs.Handed.{entries_quoted, entries_bare, entries_none, one_word, two_words, further}
 use Rattle.sheets.proofs.entries.EntriesIterator.next.Goals as goal
-use Rattle.sheets.proofs.entries.EntriesIterator.next.Goals.{in_default-via-then-self-lt1, in_default-via-else-self-lt1+in-len1-up+else-is_of-3}
-use Rattle.std.proofs.iter.Next.{firm}
 
 -- where the word n places further on lies
 lies : (w : Bor (List ℕ)) (s : Entries) (n m : ℕ) → m ≡ s.place + n → ReadsFrom w s → ◌≡◌ {A = ℕ × ℕ} (s.rest.ref_ptr.0, n * 4 + s.rest.ref_ptr.1) (address w m)
 lies w s n m h e = further w.ref_ptr.0 w.ref_ptr.1 s.place n m s.rest.ref_ptr h e
 
-pub returns-in-len2-up : goal.returns-in-len2-up
-returns-in-len2-up c =
+pub returns-in-len2-up-clause-steps : goal.returns-in-len2-up-clause-steps
+returns-in-len2-up-clause-steps c =
     let s = c.args.self.now in
     let i = s.place in
     let ws = s.rest.now in
@@ -24,18 +22,15 @@ returns-in-len2-up c =
     let more = entries_quoted i ws long head figure ∙ ap (λ l. item i (get_or ws 0 0) (Some (get_or ws 1 0)) ∷ entries_from (i + 2) l) (sym (take_rest ws 2)) in
     let words = two_words ws long ∙ ap (λ l. get_or ws 0 0 ∷ get_or ws 1 0 ∷ l) (sym (take_rest ws 2)) in
     record {
-      steps = record {
-        first = more;
-        here = refl;
-        words = words;
-        onward = refl;
-        lies = λ w e. ((lies w s 0 i (omega arith) e, lies w s 1 (i + 1) (omega arith) e), lies w s 2 (i + 2) (omega arith) e);
-      };
-      goes = firm ((tt, tt, omega (arith, ap length words))) (λ h. search rules);
+      first = more;
+      here = refl;
+      words = words;
+      onward = refl;
+      lies = λ w e. ((lies w s 0 i (omega arith) e, lies w s 1 (i + 1) (omega arith) e), lies w s 2 (i + 2) (omega arith) e);
     }
 
-pub returns-in-len1-up : goal.returns-in-len1-up
-returns-in-len1-up c =
+pub returns-in-len1-up-clause-steps : goal.returns-in-len1-up-clause-steps
+returns-in-len1-up-clause-steps c =
     let s = c.args.self.now in
     let i = s.place in
     let ws = s.rest.now in
@@ -45,21 +40,18 @@ returns-in-len1-up c =
     let more = entries_bare i ws long head figure ∙ ap (λ l. item i (get_or ws 0 0) None ∷ entries_from (i + 1) l) (sym (take_rest ws 1)) in
     let words = one_word ws long ∙ ap (λ l. get_or ws 0 0 ∷ l) (sym (take_rest ws 1)) in
     record {
-      steps = record {
-        first = more;
-        here = refl;
-        words = words;
-        onward = refl;
-        lies = λ w e. (lies w s 0 i (omega arith) e, lies w s 1 (i + 1) (omega arith) e);
-      };
-      goes = firm ((tt, tt, omega (arith, ap length words))) (λ h. search rules);
+      first = more;
+      here = refl;
+      words = words;
+      onward = refl;
+      lies = λ w e. (lies w s 0 i (omega arith) e, lies w s 1 (i + 1) (omega arith) e);
     }
 
-pub returns-in_default : goal.returns-in_default
-returns-in_default c =
+pub returns-in_default-clause-steps : goal.returns-in_default-clause-steps
+returns-in_default-clause-steps c =
     let i = c.args.self.now.place in
     let ws = c.args.self.now.rest.now in
     let head : 1 ≤ length ws → eqb (kind (get_or ws 0 0)) 0 ≡ false = search rules in
-    let rest : c.in_default.self.rest ≡ c.args.self.now.rest = elim c.in_default.branch [ in_default-via-then-self-lt1 w ↦ ap (λ (t : Entries). t.rest) w.self-is | in_default-via-else-self-lt1+in-len1-up+else-is_of-3 w ↦ ap (λ (t : Entries). t.rest) w.self-is ] in
-    let place : c.in_default.self.place ≡ i = elim c.in_default.branch [ in_default-via-then-self-lt1 w ↦ ap (λ (t : Entries). t.place) w.self-is | in_default-via-else-self-lt1+in-len1-up+else-is_of-3 w ↦ ap (λ (t : Entries). t.place) w.self-is ] in
-    record { steps = (entries_none i ws head, rest, place); goes = firm (tt) (λ h. search rules) }
+    let rest : c.in_default.self.rest ≡ c.args.self.now.rest = search rules in
+    let place : c.in_default.self.place ≡ i = search rules in
+    (entries_none i ws head, rest, place)

@@ -1,17 +1,8 @@
-use Rattle.sheets.proofs.Verdicts.{sound_page, exact_words, in_size, every_page, one_sheet, breach_told}
+use Rattle.sheets.proofs.Meant.{verdict_told}
+use Rattle.sheets.proofs.Verdicts.{checked}
 use Rattle.sheets.proofs.sheet.Sheet.check.Goals as goal
 
 pub returns : goal.returns
 returns c =
-    let ws = c.args.self.now.words.now in
-    let r = c.verdict.result in
-    let answer = c.verdict.ensures in
-    record {
-      answer = answer;
-      breach = breach_told ws r answer;
-      sound = sound_page ws r;
-      exact = exact_words ws r answer;
-      size = in_size ws r answer;
-      one = one_sheet ws r answer;
-      every = every_page ws r answer;
-    }
+    let s = c.args.self.now in
+    checked s.words.now c.map.result (verdict_told s.words.now _ s.outcome c.map.result s.read c.map.ensures.cases)

@@ -1,33 +1,20 @@
-use Rattle.std.proofs.Common.{[], sym, ◌∙◌, subst, arith}
-use Rattle.std.proofs.lemmas.Bool.{both_ways}
-use Rattle.sheets.specs.Entries.{AllOf}
-use Rattle.sheets.proofs.Handed.{entries_none}
-use Rattle.sheets.proofs.Meant.{ok_accepted, err_accepted}
-use Rattle.sheets.proofs.Standing.{all_of, entries_told, entries_refused, some_words}
+use Rattle.std.proofs.Common.{ℕ, List, [], sym, ap, ◌∙◌, subst, Bor, arith}
+use Rattle.sheets.specs.Entries.{entries_of}
+use Rattle.sheets.specs.Meaning.{accepted}
+use Rattle.sheets.specs.Reader.{ReaderOf}
+use Rattle.sheets.proofs.Handed.{entries_none, all_left}
+use Rattle.sheets.proofs.Meant.{tested}
+use Rattle.sheets.proofs.Standing.{reads_all, reads_none}
 use Rattle.sheets.proofs.sheet.Sheet.entries.Goals as goal
-
-pub returns-in_default : goal.returns-in_default
-returns-in_default c =
-    let s = c.args.self.now in
-    let ws = s.words.now in
-    let no-sheet = err_accepted ws s.outcome s.read _ c.in_default.is in
-    let none = entries_none 0 [] (λ h. absurd (omega arith)) in
-    record {
-      entries = none ∙ sym (entries_refused ws no-sheet);
-      all = λ e. absurd (both_ways _ no-sheet e);
-      lent = λ e. absurd (both_ways _ no-sheet e);
-      none = λ _. none;
-    }
+use Rattle.sheets.proofs.sheet.Sheet.entries.Goals.{then-is_ok, else-is_ok}
 
 pub returns : goal.returns
 returns c =
     let s = c.args.self.now in
-    let ws = s.words.now in
-    let accepts = ok_accepted ws s.outcome s.read _ c.in-Ok.is in
-    let told = c.after_opening.ensures.entries in
-    record {
-      entries = told ∙ sym (entries_told ws accepts);
-      all = λ e. subst (AllOf ws) (sym told) (all_of ws e);
-      lent = λ e. c.after_opening.ensures.lent (some_words ws e);
-      none = λ e. absurd (both_ways _ e accepts);
-    }
+    let made = c.after_opening.ensures in
+    let left = all_left c.if-is_ok.words.now c.after_opening.result made.place made.rest in
+    let test = c.is_ok.ensures.value ∙ tested s.words.now s.outcome s.read in
+    elim c.if-is_ok.branch [
+      | then-is_ok w ↦ subst (λ (vs : Bor (List ℕ)). ReaderOf vs c.after_opening.result) w.words-is (reads_all c.if-is_ok.words c.after_opening.result (ap (λ (vs : Bor (List ℕ)). accepted vs.now) w.words-is ∙ sym test ∙ w.if-is_ok.true) left made.lent)
+      | else-is_ok w ↦ reads_none s.words c.after_opening.result (sym test ∙ w.if-is_ok.false) (left ∙ ap (λ (vs : Bor (List ℕ)). entries_of vs.now) w.words-is ∙ entries_none 1 [] (λ h. absurd (omega arith)))
+    ]
