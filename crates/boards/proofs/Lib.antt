@@ -1,5 +1,6 @@
 pub mod Puts
-pub mod Asks
 pub mod Means
 pub mod Pages
+pub mod Fresh
 pub mod Moves
+pub mod Sums

@@ -1,5 +1,5 @@
 -- The sums of a line's quotes: what one provider more adds, how large they are, and what their mean shows. Assumes nothing.
-use Rattle.std.proofs.Common.{◌≡◌, ℕ, zero, suc, ◌+◌, ◌*◌, ◌<◌, ◌≤◌, true, eqb, List, ℤ, pos, negsuc, ◌+ℤ◌, ◌*ℤ◌, ◌≤ℤ◌, is_some, Some, None, Option, sym, refl, ap, ◌∙◌, subst, ⊎_elim, add-zero, add-one, arith}
+use Rattle.std.proofs.Common.{◌≡◌, ℕ, zero, suc, ◌+◌, ◌*◌, ◌<◌, ◌≤◌, true, eqb, List, ℤ, pos, negsuc, ◌+ℤ◌, ◌*ℤ◌, ◌≤ℤ◌, is_some, Some, None, Option, sym, refl, ap, ◌∙◌, subst, ⊎_elim, add-zero, arith}
 use lib.IntN.{+ℤ_idr}
 use Rattle.std.proofs.lemmas.Int.{ints}
 use Rattle.std.proofs.lemmas.Bool.{cond_both, cond-true, cond-false, eqb-false, eq-eqb, ne_eqb, cases_lt}
@@ -38,12 +38,6 @@ module _ (s : List ℕ) (q : List (List (Option ℤ))) (k : ℕ) where
   pub weight_le : ((p : ℕ) → share_of s p ≤ 10000) → (n : ℕ) → weight s q k n ≤ 10000 * n
   weight_le h zero = omega arith
   weight_le h (suc n) = omega (arith, weight_le h n, counted_le (share_of s n) (latest q n k) (h n))
-
-  pub weight_more : (p : ℕ) (o : Option ℤ) → latest q p k ≡ o → weight s q k (p + 1) ≡ weight s q k p + counted (share_of s p) o
-  weight_more p o e = rw (add-one, e)
-
-  pub total_more : (p : ℕ) (o : Option ℤ) → latest q p k ≡ o → total s q k (p + 1) ≡ total s q k p +ℤ weighed (share_of s p) o
-  total_more p o e = rw (add-one, e)
 
   module _ (ranged : (p : ℕ) → fits k (latest q p k) ≡ true) where
     pub total_wide : (n : ℕ) → ((negsuc 1999999 *ℤ pos (weight s q k n)) ≤ℤ total s q k n) × (total s q k n ≤ℤ (pos 800000000 *ℤ pos (weight s q k n)))

@@ -1,5 +1,6 @@
 #![tactic(auto)]
 
 pub mod board;
+mod provider;
 pub mod quoting;
 pub mod reading;

@@ -1,73 +1,102 @@
 // How a board is made and quoted on.
-ghost use Rattle.std.specs.Prelude.{◌≡◌, ◌<◌, true, Some, None, MatchResult, OnOk};
+ghost use Rattle.std.specs.Prelude.{◌≡◌, ◌<◌, ◌≤◌, Some, None, MatchResult, OnOk, set, replicate, ◌++◌};
 ghost use Rattle.days.specs.Questions.{refusal_of, first_failing};
 ghost use Rattle.days.specs.Told.{told_source};
 ghost use Rattle.sources.specs.Page.{Present};
-ghost use Rattle.boards.specs.Quotes.{share_of, fits};
-ghost use Rattle.boards.specs.Board.{board_page, Fresh, OnlyQuote, OnlyLine};
-ghost use Rattle.boards.specs.Quoting.{unquoting, quoting, Refused};
+ghost use Rattle.boards.specs.Quotes.{share_of};
+ghost use Rattle.boards.specs.Board.{shares_of, board_page, Fresh, OnlyQuote, OnlyLine};
+ghost use Rattle.boards.specs.Quoting.{of_provider, of_line, of_figure, unquoting, quoting, Refused};
 
 use crate::board::Board;
+use crate::provider::Provider;
 use days::fault::SourceFault;
 use days::lines::{LINES, in_range};
 use days::table::DayTable;
+use sources::source::LAST_VALUATION_DAY;
 
 pub const PROVIDERS: usize = 8;
 
-const LAST_VALUATION_DAY: u32 = 100_000;
-
 const LARGEST_SHARE: u32 = 10_000;
 
-// Is there such a provider, and such a line?
-fn ask_place(provider: usize, line: usize) -> Result<(), SourceFault>
-    ensures { refusal_of told_source result ≡ first_failing (unquoting provider line) }
+// Is there such a provider?
+fn ask_provider(provider: usize) -> Result<(), SourceFault>
+    ensures { refusal_of told_source result ≡ first_failing (of_provider provider) }
 {
     if provider >= PROVIDERS {
         return Err(SourceFault::NoProvider { provider });
     }
+    Ok(())
+}
+
+// Is there such a line?
+fn ask_line(line: usize) -> Result<(), SourceFault>
+    ensures { refusal_of told_source result ≡ first_failing (of_line line) }
+{
     if line >= LINES {
         return Err(SourceFault::NoLine { line });
     }
     Ok(())
 }
 
-fn ask_quote(provider: usize, line: usize, figure: i32) -> Result<(), SourceFault>
-    ensures { refusal_of told_source result ≡ first_failing (quoting provider line figure) }
-{
-    ask_place(provider, line)?;
-    if !in_range(line, figure) {
-        return Err(SourceFault::FigureOutOfRange { line });
+impl Provider {
+    // A provider that has quoted nothing.
+    fn new(share: u32) -> Provider
+        requires { share ≤ 10000 }
+        ensures shared { result.share ≡ share }
+        ensures silent { result.quotes ≡ replicate 29 None }
+    {
+        Provider {
+            share,
+            quotes: [None; LINES],
+        }
     }
-    Ok(())
+
+    // Makes the latest quote for a line this figure.
+    fn quote(&mut self, line: usize, figure: i32) -> Result<(), SourceFault>
+        ensures answer { refusal_of told_source result ≡ first_failing (of_line line ++ of_figure line figure) }
+        ensures quotes { MatchResult result (λ _. (line < 29) × (self.new.quotes ≡ set self.old.quotes line (Some figure))) (λ _. self.new ≡ self.old) }
+        ensures share { self.new.share ≡ self.old.share }
+    {
+        ask_line(line)?;
+        if !in_range(line, figure) {
+            return Err(SourceFault::FigureOutOfRange { line });
+        }
+        self.quotes[line] = Some(figure);
+        Ok(())
+    }
+
+    // Takes the latest quote for a line away.
+    fn unquote(&mut self, line: usize) -> Result<(), SourceFault>
+        ensures answer { refusal_of told_source result ≡ first_failing (of_line line) }
+        ensures quotes { MatchResult result (λ _. (line < 29) × (self.new.quotes ≡ set self.old.quotes line None)) (λ _. self.new ≡ self.old) }
+        ensures share { self.new.share ≡ self.old.share }
+    {
+        ask_line(line)?;
+        self.quotes[line] = None;
+        Ok(())
+    }
 }
 
 impl Board {
     // A board without quotes, or a refusal: of its valuation day, or of the lowest provider's share that is too large.
-    pub fn new(valuation: u32, days: DayTable, shares: [u32; 8]) -> Result<Board, SourceFault>
+    pub fn new(
+        valuation: u32,
+        days: DayTable,
+        shares: [u32; PROVIDERS],
+    ) -> Result<Board, SourceFault>
         ensures { MatchResult result (Fresh valuation days shares) (Refused valuation shares) }
     {
         if valuation > LAST_VALUATION_DAY {
             return Err(SourceFault::ValuationDayTooLate);
         }
-        for provider in 0..PROVIDERS {
-            if shares[provider] > LARGEST_SHARE {
-                return Err(SourceFault::ShareTooLarge { provider });
-            }
+        if let Some(provider) = shares.iter().position(|share| *share > LARGEST_SHARE) {
+            return Err(SourceFault::ShareTooLarge { provider });
         }
         Ok(Board {
             valuation,
             days,
-            shares,
-            quotes: [[None; 29]; 8],
+            providers: shares.map(Provider::new),
         })
-    }
-
-    // Makes a provider's quote for a line this one, or none.
-    fn put(&mut self, provider: usize, line: usize, quote: Option<i32>)
-        requires { (provider < 8) × ((line < 29) × (fits line quote ≡ true)) }
-        ensures { OnlyQuote self.old self.new provider line quote }
-    {
-        self.quotes[provider][line] = quote;
     }
 
     // A provider's quote for a line; the latest rules. Its line then shows a figure, unless the provider's share is 0.
@@ -75,11 +104,11 @@ impl Board {
         ensures answer { refusal_of told_source result ≡ first_failing (quoting provider line figure) }
         ensures board { MatchResult result (λ _. OnlyQuote self.old self.new provider line (Some figure)) (λ _. self.new ≡ self.old) }
         ensures page { OnOk result (OnlyLine (board_page self.old) (board_page self.new) line) }
-        ensures shown { OnOk result (0 < share_of self.old.shares provider → Present (board_page self.new) line) }
+        ensures shown { OnOk result (0 < share_of (shares_of self.old) provider → Present (board_page self.new) line) }
     {
-        ask_quote(provider, line, figure)?;
-        self.put(provider, line, Some(figure));
-        Ok(())
+        ask_provider(provider)?;
+        let providers = &mut self.providers;
+        providers[provider].quote(line, figure)
     }
 
     // Takes a provider's quote for a line away; where there is none nothing changes.
@@ -88,8 +117,8 @@ impl Board {
         ensures board { MatchResult result (λ _. OnlyQuote self.old self.new provider line None) (λ _. self.new ≡ self.old) }
         ensures page { OnOk result (OnlyLine (board_page self.old) (board_page self.new) line) }
     {
-        ask_place(provider, line)?;
-        self.put(provider, line, None);
-        Ok(())
+        ask_provider(provider)?;
+        let providers = &mut self.providers;
+        providers[provider].unquote(line)
     }
 }

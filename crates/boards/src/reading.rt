@@ -1,15 +1,22 @@
 // How a board is read: as a quote source.
-ghost use Rattle.std.specs.Prelude.{◌≡◌, ◌<◌, ℤ, Option as Maybe};
-ghost use Rattle.boards.specs.Quotes.{latest};
+ghost use Rattle.std.specs.Prelude.{◌≡◌, ℤ, Option as Maybe, None, slice_index_or};
 ghost use Rattle.boards.specs.Mean.{weight, total, Shows, shown};
-ghost use Rattle.boards.specs.Board.{board_page};
+ghost use Rattle.boards.specs.Board.{shares_of, quotes_of, board_page};
 
 use crate::board::Board;
-use crate::quoting::PROVIDERS;
-use days::lines::LINES;
+use crate::provider::Provider;
 use days::table::DayTable;
 use sources::rounding::{floor_div, weigh};
 use sources::source::QuoteSource;
+
+impl Provider {
+    // The latest quote for a line.
+    fn latest(&self, line: usize) -> Option<i32>
+        ensures { result ≡ slice_index_or self.now.quotes line None }
+    {
+        self.quotes.get(line).copied().flatten()
+    }
+}
 
 // The shares that count at a line, and their figures by share, each summed up.
 struct Sums {
@@ -18,53 +25,34 @@ struct Sums {
 }
 
 impl Board {
-    // A provider's latest quote for a line.
-    fn latest(&self, provider: usize, line: usize) -> Option<i32>
-        requires { provider < 8 }
-        ensures { result ≡ latest self.now.quotes provider line }
-    {
-        if line < LINES {
-            self.quotes[provider][line]
-        } else {
-            None
-        }
-    }
-
     fn sums(&self, line: usize) -> Sums
-        ensures weights { result.weight ≡ weight self.now.shares self.now.quotes line 8 }
-        ensures totals { result.total ≡ total self.now.shares self.now.quotes line 8 }
+        ensures weights { result.weight ≡ weight (shares_of self.now) (quotes_of self.now) line 8 }
+        ensures totals { result.total ≡ total (shares_of self.now) (quotes_of self.now) line 8 }
     {
         let mut weight: u32 = 0;
         let mut total: i64 = 0;
-        for provider in 0..PROVIDERS {
-            if let Some(figure) = self.latest(provider, line) {
-                weight += self.shares[provider];
-                total += weigh(self.shares[provider], figure);
+        for provider in &self.providers {
+            if let Some(figure) = provider.latest(line) {
+                weight += provider.share;
+                total += weigh(provider.share, figure);
             }
         }
         Sums { weight, total }
     }
 
-    fn weighted_mean(&self, line: usize) -> Option<i32>
-        ensures { result ≡ shown self.now.shares self.now.quotes line }
-    {
-        let Sums { weight, total } = self.sums(line);
-        match floor_div(total, weight) {
-            Some(mean) => Some(mean as i32),
-            None => None,
-        }
-    }
-
     // The mean of a line's quotes, weighted by share and rounded down; nothing where no quote counts.
     pub fn mean(&self, line: usize) -> Option<i32>
-        ensures answer { result ≡ shown self.now.shares self.now.quotes line }
-        ensures shows { Shows self.now.shares self.now.quotes line result }
-        ensures one { (o : Maybe ℤ) → Shows self.now.shares self.now.quotes line o → o ≡ result }
+        ensures answer { result ≡ shown (shares_of self.now) (quotes_of self.now) line }
+        ensures shows { Shows (shares_of self.now) (quotes_of self.now) line result }
+        ensures one { (o : Maybe ℤ) → Shows (shares_of self.now) (quotes_of self.now) line o → o ≡ result }
     {
-        self.weighted_mean(line)
+        let Sums { weight, total } = self.sums(line);
+        let mean = floor_div(total, weight)?;
+        Some(mean as i32)
     }
 }
 
+#[tactic(auto, using(crate::proofs::Pages::board_sound))]
 impl QuoteSource for Board {
     ghost page = { board_page };
 

@@ -5,7 +5,7 @@ use Rattle.days.specs.declared.table.DayTable.{DayTable}
 use Rattle.boards.specs.declared.board.Board.{Board}
 use Rattle.boards.specs.Quotes.{latest}
 use Rattle.boards.specs.Mean.{shown}
-use Rattle.boards.specs.Board.{board_page, Fresh, OnlyQuote}
+use Rattle.boards.specs.Board.{shares_of, quotes_of, board_page, Fresh, OnlyQuote}
 use Rattle.boards.proofs.Moves.{shown_same}
 use Rattle.layers.specs.Gap.{straight, drawn}
 use Rattle.layers.specs.GapPage.{gap_figure}
@@ -18,33 +18,33 @@ quotes : List (List (Option ℤ))
 quotes = (replicate 9 None ++ (Some (negsuc 0) ∷ None ∷ Some (negsuc 1) ∷ [])) ∷ []
 
 module _ (d : DayTable) (a b c : Board) (blank : d.days ≡ blank_days) (new : Fresh 0 d (1 ∷ replicate 7 0) a) (one : OnlyQuote a b 0 9 (Some (negsuc 0))) (two : OnlyQuote b c 0 11 (Some (negsuc 1))) where
-  shared : c.shares ≡ shares
+  shared : shares_of c ≡ shares
   unfolding shares
   shared = two.shared ∙ one.shared ∙ new.shared
 
   tabled : c.days.days ≡ blank_days
   tabled = ap (λ (t : DayTable). t.days) (two.tabled ∙ one.tabled ∙ new.tabled) ∙ blank
 
-  other : (p k : ℕ) → (p ≡ 0 → k ≡ 9 → ⊥) → (p ≡ 0 → k ≡ 11 → ⊥) → latest c.quotes p k ≡ None
+  other : (p k : ℕ) → (p ≡ 0 → k ≡ 9 → ⊥) → (p ≡ 0 → k ≡ 11 → ⊥) → latest (quotes_of c) p k ≡ None
   other p k f g = two.others p k g ∙ one.others p k f ∙ new.empty p k
 
-  at_9 : (p : ℕ) → latest c.quotes p 9 ≡ latest quotes p 9
+  at_9 : (p : ℕ) → latest (quotes_of c) p 9 ≡ latest quotes p 9
   unfolding quotes
   at_9 zero = two.others 0 9 (λ _ e. omega arith) ∙ one.here
   at_9 (suc p) = other (suc p) 9 (λ e _. omega arith) (λ e _. omega arith)
 
-  at_10 : (p : ℕ) → latest c.quotes p 10 ≡ latest quotes p 10
+  at_10 : (p : ℕ) → latest (quotes_of c) p 10 ≡ latest quotes p 10
   unfolding quotes
   at_10 zero = other 0 10 (λ _ e. omega arith) (λ _ e. omega arith)
   at_10 (suc p) = other (suc p) 10 (λ e _. omega arith) (λ e _. omega arith)
 
-  at_11 : (p : ℕ) → latest c.quotes p 11 ≡ latest quotes p 11
+  at_11 : (p : ℕ) → latest (quotes_of c) p 11 ≡ latest quotes p 11
   unfolding quotes
   at_11 zero = two.here
   at_11 (suc p) = other (suc p) 11 (λ e _. omega arith) (λ e _. omega arith)
 
-  figure : (k : ℕ) → ((p : ℕ) → latest c.quotes p k ≡ latest quotes p k) → (board_page c).figure k ≡ shown shares quotes k
-  figure k same = ap (λ s. shown s c.quotes k) shared ∙ shown_same shares quotes c.quotes k same
+  figure : (k : ℕ) → ((p : ℕ) → latest (quotes_of c) p k ≡ latest quotes p k) → (board_page c).figure k ≡ shown shares quotes k
+  figure k same = ap (λ s. shown s (quotes_of c) k) shared ∙ shown_same shares quotes (quotes_of c) k same
 
   pub filled : gap_figure (board_page c) 10 ≡ Some (negsuc 1)
   unfolding shares quotes

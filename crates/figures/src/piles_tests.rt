@@ -7,46 +7,42 @@ use sources::source::QuoteSource;
 use std::process::Abort;
 use std::test::Fail;
 
-// A board of one provider with these forward points, lines 8 to 15.
-fn points(valuation: u32, figures: [Option<i32>; 8]) -> Result<Board, Fail> {
+// A board of one provider with these forward points, by line.
+fn points(valuation: u32, named: &[(usize, i32)]) -> Result<Board, Fail> {
     let mut board = Board::new(valuation, DayTable::blank(), [1, 0, 0, 0, 0, 0, 0, 0]).map_err(
         |_| Fail::new("a board was refused"),
     )?;
-    for (i, figure) in figures.iter().enumerate() {
-        if let Some(figure) = figure {
-            board
-                .quote(0, 8 + i, *figure)
-                .map_err(|_| Fail::new("a quote was refused"))?;
-        }
+    for (line, figure) in named {
+        board
+            .quote(0, *line, *figure)
+            .map_err(|_| Fail::new("a quote was refused"))?;
     }
     Ok(board)
 }
 
-fn check_points<S: QuoteSource>(rt: &impl Abort, s: &S, expected: [Option<i32>; 8]) {
-    for (i, figure) in expected.iter().enumerate() {
-        assert_eq!(rt; s.figure(8 + i), *figure);
+// The source has these forward points, by line, and no other.
+fn check_points<S: QuoteSource>(rt: &impl Abort, s: &S, named: &[(usize, i32)]) {
+    for line in 8..16 {
+        let expected = named.iter().find(|(at, _)| *at == line);
+        assert_eq!(rt; s.figure(line), expected.map(|(_, figure)| *figure));
     }
 }
 
 #[test]
 fn gap_draws_straight_lines(rt: HostRuntime) -> Result<(), Fail> {
-    let today = points(
-        5,
-        [None, Some(-1), None, Some(-2), None, None, None, Some(100)],
-    )?;
+    let today = points(5, &[(9, -1), (11, -2), (15, 100)])?;
     let gap = Gap::over(&today);
     check_points(
         &rt,
         &gap,
-        [
-            None,
-            Some(-1),
-            Some(-2),
-            Some(-2),
-            Some(18),
-            Some(38),
-            Some(59),
-            Some(100),
+        &[
+            (9, -1),
+            (10, -2),
+            (11, -2),
+            (12, 18),
+            (13, 38),
+            (14, 59),
+            (15, 100),
         ],
     );
     assert_eq!(rt; gap.figure(16), None);
@@ -58,17 +54,13 @@ fn gap_draws_straight_lines(rt: HostRuntime) -> Result<(), Fail> {
 
 #[test]
 fn gap_keeps_groups_apart(rt: HostRuntime) -> Result<(), Fail> {
-    let mut today = points(5, [None, None, None, None, None, None, None, Some(100)])?;
+    let mut today = points(5, &[(15, 100)])?;
     assert!(rt; today.quote(0, 0, 9_000_000).is_ok());
     assert!(rt; today.quote(0, 3, 45_000).is_ok());
     assert!(rt; today.quote(0, 5, 47_000).is_ok());
     assert!(rt; today.quote(0, 18, 380_000_003).is_ok());
     let bare = Gap::over(&today);
-    check_points(
-        &rt,
-        &bare,
-        [None, None, None, None, None, None, None, Some(100)],
-    );
+    check_points(&rt, &bare, &[(15, 100)]);
     assert_eq!(rt; bare.figure(4), None, "rates are never filled");
     assert_eq!(rt; bare.figure(16), None, "line 15 is no neighbour of line 16");
     assert_eq!(rt; bare.figure(17), None);
@@ -83,101 +75,65 @@ fn gap_keeps_groups_apart(rt: HostRuntime) -> Result<(), Fail> {
 
 #[test]
 fn reserve_takes_all_points_or_none(rt: HostRuntime) -> Result<(), Fail> {
-    let yesterday = points(
-        4,
-        [Some(1), None, Some(3), None, Some(5), None, Some(7), None],
-    )?;
-    let two = points(
-        5,
-        [
-            Some(10),
-            None,
-            None,
-            Some(40),
-            None,
-            None,
-            Some(70),
-            Some(80),
-        ],
-    )?;
+    let yesterday = points(4, &[(8, 1), (10, 3), (12, 5), (14, 7)])?;
+    let two = points(5, &[(8, 10), (11, 40), (14, 70), (15, 80)])?;
     check_points(
         &rt,
         &Reserve::of(&two, &yesterday),
-        [
-            Some(10),
-            None,
-            None,
-            Some(40),
-            None,
-            None,
-            Some(70),
-            Some(80),
-        ],
+        &[(8, 10), (11, 40), (14, 70), (15, 80)],
     );
-    let first = points(
-        5,
-        [
-            None,
-            None,
-            None,
-            Some(40),
-            Some(50),
-            Some(60),
-            Some(70),
-            Some(80),
-        ],
-    )?;
+    let first = points(5, &[(11, 40), (12, 50), (13, 60), (14, 70), (15, 80)])?;
     check_points(
         &rt,
         &Reserve::of(&first, &yesterday),
-        [Some(1), None, Some(3), None, Some(5), None, Some(7), None],
+        &[(8, 1), (10, 3), (12, 5), (14, 7)],
     );
-    let last = points(
-        5,
-        [
-            Some(10),
-            Some(20),
-            Some(30),
-            Some(40),
-            Some(50),
-            None,
-            None,
-            None,
-        ],
-    )?;
+    let last = points(5, &[(8, 10), (9, 20), (10, 30), (11, 40), (12, 50)])?;
     let reserve = Reserve::of(&last, &yesterday);
-    check_points(
-        &rt,
-        &reserve,
-        [Some(1), None, Some(3), None, Some(5), None, Some(7), None],
-    );
+    check_points(&rt, &reserve, &[(8, 1), (10, 3), (12, 5), (14, 7)]);
     assert_eq!(rt; reserve.valuation_day(), 5);
     check_points(
         &rt,
         &Gap::over(reserve),
-        [
-            Some(1),
-            Some(1),
-            Some(3),
-            Some(3),
-            Some(5),
-            Some(6),
-            Some(7),
-            None,
-        ],
+        &[(8, 1), (9, 1), (10, 3), (11, 3), (12, 5), (13, 6), (14, 7)],
     );
     Ok(())
 }
 
 #[test]
 fn reserve_lends_an_absent_spot(rt: HostRuntime) -> Result<(), Fail> {
-    let mut yesterday = points(4, [None; 8])?;
-    let mut today = points(5, [Some(10); 8])?;
+    let mut yesterday = points(4, &[])?;
+    let mut today = points(
+        5,
+        &[
+            (8, 10),
+            (9, 10),
+            (10, 10),
+            (11, 10),
+            (12, 10),
+            (13, 10),
+            (14, 10),
+            (15, 10),
+        ],
+    )?;
     assert!(rt; yesterday.quote(0, 0, 9_100_000).is_ok());
     assert!(rt; yesterday.quote(0, 16, 380_000_000).is_ok());
     assert_eq!(rt; Reserve::of(&today, &yesterday).figure(0), Some(9_100_000));
     assert_eq!(rt; Reserve::of(&today, &yesterday).figure(16), None);
-    check_points(&rt, &Reserve::of(&today, &yesterday), [Some(10); 8]);
+    check_points(
+        &rt,
+        &Reserve::of(&today, &yesterday),
+        &[
+            (8, 10),
+            (9, 10),
+            (10, 10),
+            (11, 10),
+            (12, 10),
+            (13, 10),
+            (14, 10),
+            (15, 10),
+        ],
+    );
     assert!(rt; today.quote(0, 0, 9_000_000).is_ok());
     assert_eq!(rt; Reserve::of(&today, &yesterday).figure(0), Some(9_000_000));
     Ok(())
@@ -185,30 +141,18 @@ fn reserve_lends_an_absent_spot(rt: HostRuntime) -> Result<(), Fail> {
 
 #[test]
 fn the_order_of_layers_matters(rt: HostRuntime) -> Result<(), Fail> {
-    let today = points(
-        5,
-        [
-            Some(10),
-            None,
-            None,
-            None,
-            Some(90),
-            Some(100),
-            Some(110),
-            Some(120),
-        ],
-    )?;
+    let today = points(5, &[(8, 10), (12, 90), (13, 100), (14, 110), (15, 120)])?;
     let yesterday = points(
         4,
-        [
-            Some(1),
-            Some(2),
-            Some(3),
-            Some(4),
-            Some(5),
-            Some(6),
-            Some(7),
-            Some(8),
+        &[
+            (8, 1),
+            (9, 2),
+            (10, 3),
+            (11, 4),
+            (12, 5),
+            (13, 6),
+            (14, 7),
+            (15, 8),
         ],
     )?;
     let gap_over: Gap<Reserve<Board, Board>> = Gap::over(Reserve::of(today, yesterday));
@@ -216,29 +160,29 @@ fn the_order_of_layers_matters(rt: HostRuntime) -> Result<(), Fail> {
     check_points(
         &rt,
         &gap_over,
-        [
-            Some(1),
-            Some(2),
-            Some(3),
-            Some(4),
-            Some(5),
-            Some(6),
-            Some(7),
-            Some(8),
+        &[
+            (8, 1),
+            (9, 2),
+            (10, 3),
+            (11, 4),
+            (12, 5),
+            (13, 6),
+            (14, 7),
+            (15, 8),
         ],
     );
     check_points(
         &rt,
         &gap_under,
-        [
-            Some(10),
-            Some(20),
-            Some(34),
-            Some(48),
-            Some(90),
-            Some(100),
-            Some(110),
-            Some(120),
+        &[
+            (8, 10),
+            (9, 20),
+            (10, 34),
+            (11, 48),
+            (12, 90),
+            (13, 100),
+            (14, 110),
+            (15, 120),
         ],
     );
     Ok(())

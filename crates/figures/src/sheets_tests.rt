@@ -1,6 +1,5 @@
 // Sheets: every refusal at its first, a middle and its last possible place, and what sheets mean.
 // The words were worked out by hand from the format.
-use crate::told::told;
 use boards::board::Board;
 use days::table::DayTable;
 use layers::gap::Gap;
@@ -203,31 +202,31 @@ const CHANGES: [(usize, u32, Option<(u32, usize)>); 45] = [
 ];
 
 // What a sheet's check tells.
-fn checked(words: &[u32]) -> Option<(u32, usize)> {
-    told(Sheet::of(words).check())
+fn told(words: &[u32]) -> Option<(u32, usize)> {
+    crate::told::told(Sheet::of(words).check())
 }
 
 #[test]
-fn a_word_changed_is_checked(rt: HostRuntime) {
-    assert_eq!(rt; checked(&FULL), None);
-    assert_eq!(rt; checked(&BARE), None);
+fn a_word_changed_is_told(rt: HostRuntime) {
+    assert_eq!(rt; told(&FULL), None);
+    assert_eq!(rt; told(&BARE), None);
     for (place, word, expected) in CHANGES {
         let mut words = FULL;
         if place < 60 {
             words[place] = word;
         }
-        assert_eq!(rt; checked(&words), expected);
+        assert_eq!(rt; told(&words), expected);
     }
 }
 
 #[test]
 fn a_sheet_cut_short_lacks_its_next_word(rt: HostRuntime) {
-    assert_eq!(rt; checked(&[]), Some((11, 0)), "an empty sheet");
+    assert_eq!(rt; told(&[]), Some((11, 0)), "an empty sheet");
     for count in 0..60usize {
-        assert_eq!(rt; checked(&FULL[0..count]), Some((11, count)));
+        assert_eq!(rt; told(&FULL[0..count]), Some((11, count)));
     }
     for count in 0..31usize {
-        assert_eq!(rt; checked(&BARE[0..count]), Some((11, count)));
+        assert_eq!(rt; told(&BARE[0..count]), Some((11, count)));
     }
 }
 
@@ -236,20 +235,20 @@ fn nothing_comes_after_the_closing_word(rt: HostRuntime) -> Result<(), Fail> {
     let mut full = FULL.to_vec(rt.alloc())?;
     full.push(0xc000_003b)?;
     assert_eq!(rt;
-        checked(full.as_slice()),
+        told(full.as_slice()),
         Some((14, 60)),
         "the last place that there is"
     );
     full.push(0)?;
     assert_eq!(rt;
-        checked(full.as_slice()),
+        told(full.as_slice()),
         Some((14, 60)),
         "the first word is told"
     );
     let mut bare = BARE.to_vec(rt.alloc())?;
     bare.push(0x8000_0000)?;
     assert_eq!(rt;
-        checked(bare.as_slice()),
+        told(bare.as_slice()),
         Some((14, 31)),
         "the first place that there is"
     );
@@ -257,34 +256,34 @@ fn nothing_comes_after_the_closing_word(rt: HostRuntime) -> Result<(), Fail> {
     half.push(0x401e_8020)?;
     half.extend_from_slice(&BARE[10..30])?;
     half.push(0xc000_001f)?;
-    assert_eq!(rt; checked(half.as_slice()), None, "one figure");
+    assert_eq!(rt; told(half.as_slice()), None, "one figure");
     half.push(0xc000_001f)?;
-    assert_eq!(rt; checked(half.as_slice()), Some((14, 32)));
+    assert_eq!(rt; told(half.as_slice()), Some((14, 32)));
     Ok(())
 }
 
 #[test]
-fn the_first_question_that_fails_is_checked(rt: HostRuntime) -> Result<(), Fail> {
+fn the_first_question_that_fails_is_told(rt: HostRuntime) -> Result<(), Fail> {
     let mut words = FULL.to_vec(rt.alloc())?;
     words.push(0)?;
     assert!(rt; words.len() == 61);
     words[57] = 0x1c00_0000;
-    assert_eq!(rt; checked(words.as_slice()), Some((14, 60)), "14 before 15");
+    assert_eq!(rt; told(words.as_slice()), Some((14, 60)), "14 before 15");
     words[59] = 0xc000_003c;
-    assert_eq!(rt; checked(words.as_slice()), Some((13, 59)), "13 before 14");
+    assert_eq!(rt; told(words.as_slice()), Some((13, 59)), "13 before 14");
     words[58] = 0x7fff_ffff;
-    assert_eq!(rt; checked(words.as_slice()), Some((13, 58)), "word by word");
+    assert_eq!(rt; told(words.as_slice()), Some((13, 58)), "word by word");
     words[57] = 0x5c01_0000;
     assert_eq!(rt;
-        checked(words.as_slice()),
+        told(words.as_slice()),
         Some((11, 57)),
         "11 before 12 of the same word"
     );
     words[57] = 0x1c01_0000;
-    assert_eq!(rt; checked(words.as_slice()), Some((12, 57)));
+    assert_eq!(rt; told(words.as_slice()), Some((12, 57)));
     words[0] = 0x0001_86a1;
     assert_eq!(rt;
-        checked(words.as_slice()),
+        told(words.as_slice()),
         Some((11, 0)),
         "11 before 13 of the same word"
     );

@@ -1,35 +1,22 @@
-use Rattle.std.proofs.Common.{◌≤◌, length, refl, ap, inr, ⊎_elim, arith, rules}
-use Rattle.std.proofs.lemmas.List.{get_or_past}
-use Rattle.std.proofs.lemmas.Bool.{cases_lt}
-use Rattle.boards.specs.Quotes.{fits}
-use Rattle.boards.proofs.Puts.{no_quotes, empty_rows}
+use Rattle.std.proofs.Common.{◌≡◌, ◌<◌, ◌≤◌, length, replicate, None, refl, ap, ◌∙◌, arith, rules, tests, lit<}
+use Rattle.std.proofs.lemmas.Iterator.{IsFirst-from_position, YieldsList-from_slice}
+use Rattle.std.proofs.lemmas.Iterator.Adapters.{serves_from_places}
+use Rattle.std.proofs.lemmas.Option.{MatchOption-at_none}
+use Rattle.boards.specs.Quotes.{latest}
+use Rattle.boards.specs.Board.{shares_of, quotes_of}
+use Rattle.boards.proofs.Fresh.{YieldsList-from_array, no_quotes, made}
 use Rattle.boards.proofs.board.Board.new.Goals as goal
 
-pub returns-then-shares-provider-gt-LARGEST_SHARE : goal.returns-then-shares-provider-gt-LARGEST_SHARE
-returns-then-shares-provider-gt-LARGEST_SHARE c =
-    inr (
-      c.if-valuation-gt-LAST_VALUATION_DAY.false,
-      (
-        c.loop-provider.provider,
-        refl,
-        record {
-          place = c.loop-provider-test.true;
-          fails = λ h. omega (arith, h, c.if-shares-provider-gt-LARGEST_SHARE.true);
-          before = c.loop-provider.invariant;
-        },
-      ),
-    )
-
-pub invariant_of-result : goal.invariant_of-result
-invariant_of-result c =
-    let n : length c.args.shares ≤ 8 = search rules in
-    record {
-      dated = search rules;
-      shared = λ p. ⊎_elim (λ h. c.loop-provider.invariant p (omega arith)) (λ h. let e = get_or_past c.args.shares p 0 (omega arith) in omega arith) (cases_lt p 8);
-      rows = refl;
-      lines = empty_rows 8 29;
-      ranged = λ p k. ap (fits k) (no_quotes 8 29 p k);
-    }
+pub map-requires : goal.map-requires
+map-requires c =
+    let s = c.args.shares in
+    let asked = IsFirst-from_position _ _ c.position.result (λ x. 10000 < x) (λ x. x ≤ 10000) c.position.ensures.ran (YieldsList-from_slice s cc) (λ x q k. search (rules, tests)) (λ x q k. search (rules, tests)) in
+    let small = MatchOption-at_none _ _ c.in_default.is asked in
+    (lit< tt, (lit< tt, (lit< tt, serves_from_places (YieldsList-from_array s) (λ x q r. refl) (λ x k h e. omega (arith, small k x (omega arith) h)))))
 
 pub returns : goal.returns
-returns c = record { dated = refl; tabled = refl; shared = refl; empty = no_quotes 8 29 }
+unfolding shares_of quotes_of
+returns c =
+    let n : length c.args.shares ≡ 8 = search rules in
+    let m = made (replicate 29 None) 8 c.args.shares c.map.result n c.map.ensures.items.long (λ i d h. let k = c.map.ensures.items.at i 0 d h in (search rules, search rules)) in
+    record { dated = refl; tabled = refl; shared = m.0; empty = λ p k. ap (λ q. latest q p k) m.1 ∙ no_quotes 8 29 p k }

@@ -1,8 +1,10 @@
 use Rattle.std.proofs.Common.{◌≡◌}
 use Rattle.boards.specs.Mean.{weight, total}
+use Rattle.boards.specs.Board.{shares_of, quotes_of}
 use Rattle.boards.proofs.board.Board.sums.Given as goal
 
 abbrev pub invariant-loop-provider : goal.invariant-loop-provider
-invariant-loop-provider l =
-    (l.weight ≡ weight l.self.shares l.self.quotes l.line l.provider)
-    × (l.total ≡ total l.self.shares l.self.quotes l.line l.provider)
+invariant-loop-provider l = record {
+  weights : l.weight ≡ weight (shares_of l.self) (quotes_of l.self) l.line l.provider-index;
+  totals : l.total ≡ total (shares_of l.self) (quotes_of l.self) l.line l.provider-index;
+}

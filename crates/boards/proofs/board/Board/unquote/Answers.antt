@@ -1,23 +1,10 @@
 use Rattle.std.proofs.Common.{None, refl, rules}
-use Rattle.std.proofs.lemmas.Result.{err_from_is_err_and}
-use Rattle.boards.proofs.Asks.{unquoting_passed}
-use Rattle.boards.proofs.Moves.{only_line}
+use Rattle.std.proofs.lemmas.Result.{MatchResult-weaker}
+use Rattle.boards.proofs.Moves.{moved, only_line}
 use Rattle.boards.proofs.board.Board.unquote.Goals as goal
 
-pub put-requires : goal.put-requires
-put-requires c =
-    let a = unquoting_passed c.args.provider c.args.line c.in_ok-ask_place.ensures in
-    search rules
+pub returns-clause-board : goal.returns-clause-board
+returns-clause-board c = moved c.args.self.now _ _ _ c.args.provider _ c.unquote.new.self refl c.unquote.result c.args.line None (search rules) c.unquote.ensures.share c.unquote.ensures.quotes
 
-pub returns-in_err-ask_place : goal.returns-in_err-ask_place
-returns-in_err-ask_place c =
-    let p = err_from_is_err_and c.from_residual.result c.from_residual.ensures.1 in
-    rw (p.1, p.2) (record { answer = c.in_err-ask_place.ensures; board = refl; page = tt })
-
-pub returns : goal.returns
-returns c =
-    record {
-      answer = c.in_ok-ask_place.ensures;
-      board = c.put.ensures;
-      page = only_line c.args.self.now c.put.new.self c.args.provider c.args.line None c.put.ensures;
-    }
+pub returns-clause-page : goal.returns-clause-page
+returns-clause-page c = MatchResult-weaker c.unquote.result (returns-clause-board c) (λ _ only. only_line c.args.self.now _ c.args.provider c.args.line None only) (λ _ _. tt)
