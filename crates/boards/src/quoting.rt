@@ -1,6 +1,6 @@
 // How a board is made and quoted on.
-ghost use Rattle.std.specs.Prelude.{◌≡◌, ◌<◌, ◌≤◌, Some, None, MatchResult, OnOk, set, replicate, ◌++◌};
-ghost use Rattle.days.specs.Questions.{refusal_of, first_failing};
+ghost use Rattle.std.specs.Prelude.{◌≡◌, ◌<◌, ◌≤◌, Some, None, MatchResult, OnOk, set, replicate, [], ◌∷◌, ◌++◌};
+ghost use Rattle.days.specs.Questions.{ask as question, refusal_of, first_failing};
 ghost use Rattle.days.specs.Told.{told_source};
 ghost use Rattle.sources.specs.Page.{Present};
 ghost use Rattle.boards.specs.Quotes.{share_of};
@@ -18,24 +18,25 @@ pub const PROVIDERS: usize = 8;
 
 const LARGEST_SHARE: u32 = 10_000;
 
+// Puts a question; where it fails this fault is told.
+fn ask(passes: bool, fault: SourceFault) -> Result<(), SourceFault>
+    ensures { refusal_of told_source result ≡ first_failing (question passes (told_source fault) ∷ []) }
+{
+    passes.then_some(()).ok_or(fault)
+}
+
 // Is there such a provider?
 fn ask_provider(provider: usize) -> Result<(), SourceFault>
     ensures { refusal_of told_source result ≡ first_failing (of_provider provider) }
 {
-    if provider >= PROVIDERS {
-        return Err(SourceFault::NoProvider { provider });
-    }
-    Ok(())
+    ask(provider < PROVIDERS, SourceFault::NoProvider { provider })
 }
 
 // Is there such a line?
 fn ask_line(line: usize) -> Result<(), SourceFault>
     ensures { refusal_of told_source result ≡ first_failing (of_line line) }
 {
-    if line >= LINES {
-        return Err(SourceFault::NoLine { line });
-    }
-    Ok(())
+    ask(line < LINES, SourceFault::NoLine { line })
 }
 
 impl Provider {
@@ -58,9 +59,10 @@ impl Provider {
         ensures share { self.new.share ≡ self.old.share }
     {
         ask_line(line)?;
-        if !in_range(line, figure) {
-            return Err(SourceFault::FigureOutOfRange { line });
-        }
+        ask(
+            in_range(line, figure),
+            SourceFault::FigureOutOfRange { line },
+        )?;
         self.quotes[line] = Some(figure);
         Ok(())
     }

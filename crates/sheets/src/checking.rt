@@ -63,12 +63,12 @@ impl Entries<'_> {
         ensures { Step result (ReadSo 29 self.old self.new) (of_words (line_due 0) self.old.place self.old.rest.now) }
     {
         let mut lines = [Line::default(); LINES];
-        for line in 0..LINES {
+        for (line, told) in lines.iter_mut().enumerate() {
             let Some(placed) = self.next() else {
                 return Err(SheetFault::NotDue { word: self.place });
             };
             placed.ask(line)?;
-            lines[line] = Line {
+            *told = Line {
                 day: placed.entry.day(),
                 figure: placed.entry.figure(),
             };

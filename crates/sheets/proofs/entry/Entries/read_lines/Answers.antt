@@ -19,6 +19,6 @@ loop-line-preserved c =
     let h = c.in-Some.ensures.steps in
     let i = c.loop-line.invariant in
     record {
-      long = length-set c.loop-line.lines _ _ ∙ i.long;
+      long = length-set c.loop-line.told-items _ _ ∙ i.long;
       read = read_more c.loop-line.line c.args.self.now c.loop-line.self _ c.loop-line-test.true i.read _ _ h _ i.long (sym c.in_ok-ask.ensures) (λ j. record { day = c.day.ensures j; figure = c.figure.ensures j });
     }
