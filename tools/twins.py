@@ -1,5 +1,6 @@
 #!/usr/bin/env python3
-# twins.py DIR: pairs of functions of one shape: bodies that are the same once names, numbers and texts are left out, or nearly so
+# twins.py FOLDER: pairs of functions of one shape below FOLDER/crates/*/src: bodies that are the same, or nearly so,
+# once names, numbers and texts are left out. A line tells how alike they are, how long the first is, and both places.
 import re,sys,glob,difflib,os
 KW=set("fn let mut match if else for in while loop return break Some None Ok Err self Self as pub impl where const ref move true false".split())
 def funcs(src):
@@ -18,7 +19,7 @@ def funcs(src):
                         d-=1
                         if d==0: break
                     j+=1
-                if re.search(r'(requires|ensures\*?)(\s+\w+)?$',head): i=j+1; continue
+                if re.search(r'(requires|ensures\*?)(\s+\w+)?$|ghost\s+\w+:$',head): i=j+1; continue
                 yield m.group(1),src[i:j+1]; break
             if c==';' : break
             i+=1

@@ -88,9 +88,10 @@ impl Board {
     ) -> Result<Board, SourceFault>
         ensures { MatchResult result (Fresh valuation days shares) (Refused valuation shares) }
     {
-        if valuation > LAST_VALUATION_DAY {
-            return Err(SourceFault::ValuationDayTooLate);
-        }
+        ask(
+            valuation <= LAST_VALUATION_DAY,
+            SourceFault::ValuationDayTooLate,
+        )?;
         if let Some(provider) = shares.iter().position(|share| *share > LARGEST_SHARE) {
             return Err(SourceFault::ShareTooLarge { provider });
         }

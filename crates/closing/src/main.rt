@@ -60,10 +60,7 @@ fn read<W: Write + Drop>(
 }
 
 fn asks_for_help(files: &[String]) -> bool {
-    match files {
-        [only] => matches!(only.as_str(), "--help" | "-h"),
-        _ => false,
-    }
+    matches!(files, [only] if matches!(only.as_str(), "--help" | "-h"))
 }
 
 fn files(rt: &HostRuntime) -> Result<Vec<String>, Stop> {

@@ -1,17 +1,13 @@
 // Boards: means, the latest quote, and every refusal of their calls.
-use crate::told::told;
+use crate::calls::{board, told};
 use boards::board::Board;
 use days::table::DayTable;
 use sources::source::QuoteSource;
 use std::test::Fail;
 
-fn board(shares: [u32; 8]) -> Result<Board, Fail> {
-    Board::new(0, DayTable::blank(), shares).map_err(|_| Fail::new("a board was refused"))
-}
-
 #[test]
 fn a_mean_is_weighted_and_rounds_down(rt: HostRuntime) -> Result<(), Fail> {
-    let mut b = board([1, 2, 0, 1, 0, 0, 0, 0])?;
+    let mut b = board(0, [1, 2, 0, 1, 0, 0, 0, 0])?;
     assert_eq!(rt; told(b.quote(0, 0, 9_000_000)), None);
     assert_eq!(rt; told(b.quote(1, 0, 9_000_001)), None);
     assert_eq!(rt; b.figure(0), Some(9_000_000), "27,000,002 over 3");
@@ -25,7 +21,7 @@ fn a_mean_is_weighted_and_rounds_down(rt: HostRuntime) -> Result<(), Fail> {
 
 #[test]
 fn the_latest_quote_rules(rt: HostRuntime) -> Result<(), Fail> {
-    let mut b = board([3, 1, 0, 0, 0, 0, 0, 0])?;
+    let mut b = board(0, [3, 1, 0, 0, 0, 0, 0, 0])?;
     assert_eq!(rt; b.figure(16), None);
     assert_eq!(rt; told(b.quote(0, 16, 380_000_000)), None);
     assert_eq!(rt; told(b.quote(1, 16, 380_000_008)), None);
@@ -42,7 +38,7 @@ fn the_latest_quote_rules(rt: HostRuntime) -> Result<(), Fail> {
 
 #[test]
 fn calls_are_refused_in_order(rt: HostRuntime) -> Result<(), Fail> {
-    let mut b = board([0; 8])?;
+    let mut b = board(0, [0; 8])?;
     assert_eq!(rt;
         told(b.quote(8, 29, 0)),
         Some((21, 8)),

@@ -4,11 +4,11 @@
 #[cfg(test)]
 mod boards_tests;
 #[cfg(test)]
+mod calls;
+#[cfg(test)]
 mod days_tests;
 #[cfg(test)]
 mod piles_tests;
 #[cfg(test)]
 mod sheets_tests;
-#[cfg(test)]
-mod told;
 pub mod worked;

@@ -1,6 +1,6 @@
 // Gap and Reserve, one on the other and alone.
+use crate::calls::board;
 use boards::board::Board;
-use days::table::DayTable;
 use layers::gap::Gap;
 use layers::reserve::Reserve;
 use sources::source::QuoteSource;
@@ -9,9 +9,7 @@ use std::test::Fail;
 
 // A board of one provider with these forward points, by line.
 fn points(valuation: u32, named: &[(usize, i32)]) -> Result<Board, Fail> {
-    let mut board = Board::new(valuation, DayTable::blank(), [1, 0, 0, 0, 0, 0, 0, 0]).map_err(
-        |_| Fail::new("a board was refused"),
-    )?;
+    let mut board = board(valuation, [1, 0, 0, 0, 0, 0, 0, 0])?;
     for (line, figure) in named {
         board
             .quote(0, *line, *figure)
