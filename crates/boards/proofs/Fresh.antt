@@ -1,24 +1,7 @@
 -- The providers of a board just made. Assumes nothing.
-use Rattle.std.proofs.Common.{◌≡◌, ℕ, zero, suc, ◌<◌, List, [], ◌∷◌, map, length, get_or, replicate, ℤ, None, Option, refl, subst, arith}
-use Rattle.std.specs.Iterator.{AlwaysYields}
-use Rattle.std.specs.Array.{list_steps}
-use Rattle.std.proofs.lemmas.Iterator.{YieldsList}
+use Rattle.std.proofs.Common.{◌≡◌, ℕ, zero, suc, ◌<◌, List, [], ◌∷◌, map, length, get_or, replicate, ℤ, None, Option, refl, arith}
 use Rattle.boards.specs.declared.provider.Provider.{Provider}
 use Rattle.boards.specs.Quotes.{latest}
-
--- an array's elements come in order
-in_order : {A : Type 0} (s : List A) → AlwaysYields list_steps (λ x. x) s s
-in_order [] = λ x j e. cc
-in_order {A} (y ∷ ys) = (
-  λ j e. cc,
-  λ x j e.
-      let same : x ≡ y = cc in
-      let rest : ys ≡ j = cc in
-      (same, subst (λ t. AlwaysYields {A = A} list_steps (λ z. z) t ys) rest (in_order ys)),
-)
-
-pub YieldsList-from_array : {A : Type 0} (s : List A) → YieldsList list_steps (λ x. x) s s
-YieldsList-from_array s = record { runs = in_order s }
 
 pub none_row : (m k : ℕ) → ◌≡◌ {A = Option ℤ} (get_or (replicate m None) k None) None
 none_row zero k = refl

@@ -13,6 +13,7 @@ use days::fault::SourceFault;
 use days::lines::{LINES, in_range};
 use days::table::DayTable;
 use sources::source::LAST_VALUATION_DAY;
+use std::array;
 
 pub const PROVIDERS: usize = 8;
 
@@ -81,6 +82,8 @@ impl Provider {
 
 impl Board {
     // A board without quotes, or a refusal: of its valuation day, or of the lowest provider's share that is too large.
+    // Not inlined: a caller then moves the new board in one piece, and not provider by provider.
+    #[inline(never)]
     pub fn new(
         valuation: u32,
         days: DayTable,
@@ -98,7 +101,7 @@ impl Board {
         Ok(Board {
             valuation,
             days,
-            providers: shares.map(Provider::new),
+            providers: array::from_fn(|provider| Provider::new(shares[provider])),
         })
     }
 

@@ -3,3 +3,4 @@ pub mod Carried
 pub mod Markets
 pub mod Pages
 pub mod Lending
+pub mod Printed

@@ -3,6 +3,7 @@ ghost use Rattle.std.specs.Prelude.{◌≡◌};
 ghost use Rattle.days.specs.Questions.{refusal_of};
 ghost use Rattle.days.specs.Told.{told_source};
 ghost use Rattle.closing.specs.Answers.{answer_to};
+ghost use Rattle.closing.specs.Printed.{answer_text};
 
 use crate::page::Page;
 use days::fault::SourceFault;
@@ -28,6 +29,8 @@ impl From<Result<(), SourceFault>> for Answer {
 }
 
 impl fmt::Display for Answer {
+    ghost output = { answer_text };
+
     fn fmt<W: fmt::Write>(&self, f: &mut fmt::Formatter<W>) -> fmt::Result {
         match self {
             Answer::Done => f.write_str("ok"),

@@ -8,58 +8,62 @@ use std::alloc::Global;
 use std::io::{BufRead, Write};
 
 #[derive(Drop)]
-pub(crate) struct Clerk<W> {
+pub(crate) struct Clerk<'a, W> {
     market: Market,
     // Lines are numbered from 1, over all inputs.
     number: u64,
-    heap: Global,
-    out: W,
+    // The line at hand. The buffer is kept from line to line.
+    line: Vec<u8>,
+    out: &'a mut W,
 }
 
-impl<W: Write + Drop> Clerk<W> {
-    pub(crate) fn new(heap: Global, out: W) -> Clerk<W> {
+impl<'a, W: Write> Clerk<'a, W> {
+    pub(crate) fn new(heap: Global, out: &'a mut W) -> Clerk<'a, W> {
         Clerk {
             market: Market::new(),
             number: 0,
-            heap,
+            line: Vec::new(heap),
             out,
         }
     }
 
     // Works through an input, from its first line to its last.
-    pub(crate) fn work_through<R: BufRead + Drop>(
+    pub(crate) fn work_through<R: BufRead>(
         &mut self,
         input: Input,
-        lines: R,
+        lines: &mut R,
     ) -> Result<(), Stop> {
-        for line in lines.split(self.heap, b'\n') {
-            match line {
-                Ok(line) => self.work_on(line.as_slice())?,
+        for _ in 0..u64::MAX {
+            self.line.clear();
+            match lines.read_until(b'\n', &mut self.line) {
+                Ok(0) => break,
+                Ok(_) => self.work_on_line()?,
                 Err(why) => return Err(Stop::Unreadable { input, why }),
             }
         }
         Ok(())
     }
 
-    fn work_on(&mut self, line: &[u8]) -> Result<(), Stop> {
+    fn work_on_line(&mut self) -> Result<(), Stop> {
         self.number = self.number.saturating_add(1);
         let number = self.number;
-        match self.answer(line) {
+        match self.answer() {
             Ok(Some(answer)) => written(writeln!(self.out, "{number}: {answer}")),
             Ok(None) => Ok(()),
             Err(complaint) => Err(Stop::BadLine { number, complaint }),
         }
     }
 
-    // What a line gave; none if it says nothing.
-    fn answer(&mut self, line: &[u8]) -> Result<Option<Answer>, Complaint> {
-        parse(line)?
-            .map(|command| self.market.carry_out(&command))
-            .transpose()
+    // What the line gave; none if it says nothing.
+    fn answer(&mut self) -> Result<Option<Answer>, Complaint> {
+        let Some(command) = parse(self.line.as_slice())? else {
+            return Ok(None);
+        };
+        Ok(Some(self.market.carry_out(&command)?))
     }
 
     // Closes the journal.
-    pub(crate) fn close(mut self) -> Result<(), Stop> {
+    pub(crate) fn close(self) -> Result<(), Stop> {
         written(writeln!(self.out, "end: 0 accounts, received sum 0"))
     }
 }

@@ -43,10 +43,10 @@ fn run<W: Write>(rt: &HostRuntime, out: &mut W) -> Result<(), Stop> {
 }
 
 // The files one after another; with no file, standard input.
-fn read<W: Write + Drop>(
+fn read<W: Write>(
     rt: &HostRuntime,
     files: Vec<String>,
-    clerk: &mut Clerk<W>,
+    clerk: &mut Clerk<'_, W>,
 ) -> Result<(), Stop> {
     if files.is_empty() {
         let lines = BufReader::new(rt.alloc(), rt.stdin());
@@ -76,13 +76,13 @@ fn lines_of(rt: &HostRuntime, file: &str) -> io::Result<BufReader<File>> {
     BufReader::new(rt.alloc(), fs::open(rt, file)?)
 }
 
-fn work_through<R: BufRead + Drop, W: Write + Drop>(
+fn work_through<R: BufRead + Drop, W: Write>(
     input: Input,
     lines: io::Result<R>,
-    clerk: &mut Clerk<W>,
+    clerk: &mut Clerk<'_, W>,
 ) -> Result<(), Stop> {
     match lines {
-        Ok(lines) => clerk.work_through(input, lines),
+        Ok(mut lines) => clerk.work_through(input, &mut lines),
         Err(why) => Err(Stop::Unreadable { input, why }),
     }
 }

@@ -99,10 +99,10 @@ impl Market {
     ) -> Result<(), SourceFault>
         ensures { BoardMade which day shares self.old self.new result }
     {
-        let board = Some(Board::new(day, self.days, shares)?);
+        let board = Board::new(day, self.days, shares)?;
         match which {
-            Which::Today => self.today = board,
-            Which::Yesterday => self.yesterday = board,
+            Which::Today => self.today = Some(board),
+            Which::Yesterday => self.yesterday = Some(board),
         }
         Ok(())
     }

@@ -1,4 +1,6 @@
 // Why a run ends before its time.
+ghost use Rattle.closing.specs.Printed.{stop_text};
+
 use journal::complaint::Complaint;
 use std::{fmt, io};
 
@@ -26,6 +28,8 @@ impl fmt::Display for Input {
 }
 
 impl fmt::Display for Stop {
+    ghost output = { stop_text };
+
     fn fmt<W: fmt::Write>(&self, f: &mut fmt::Formatter<W>) -> fmt::Result {
         match self {
             Stop::BadLine { number, complaint } => write!(f, "error: line {number}: {complaint}"),

@@ -1,3 +1,4 @@
 pub mod Rules
 pub mod Ranges
 pub mod Asked
+pub mod Made

@@ -11,7 +11,10 @@ pub(crate) fn natural(word: &[u8]) -> Option<u32>
     }
     let mut value: u32 = 0;
     for byte in word {
-        let digit = char::from(*byte).to_digit(10)?;
+        if !byte.is_ascii_digit() {
+            return None;
+        }
+        let digit = u32::from(*byte - b'0');
         value = value.checked_mul(10)?.checked_add(digit)?;
     }
     Some(value)

@@ -1,9 +1,7 @@
 -- Where a reading ends: refused at a word, at a day, or accepted.
-use Rattle.std.proofs.Common.{◌≡◌, ℕ, true, false, eqb, List, [], ◌∷◌, ◌++◌, map, length, get_or, drop, take, ℤ, Some, None, Ok, Err, Option, sym, ap, ◌∙◌, arith}
+use Rattle.std.proofs.Common.{◌≡◌, ℕ, ◌<◌, true, false, eqb, List, [], ◌∷◌, ◌++◌, map, length, get_or, drop, take, ℤ, Some, None, Ok, Err, Option, sym, ap, ◌∙◌, arith}
 use Rattle.std.proofs.lemmas.List.{take_all, append-nil, length-map, ext_get_or, get_or-map}
 use Rattle.std.proofs.lemmas.Simd.{map-map}
-use Rattle.std.specs.Array.{IsMapOf}
-use Rattle.std.specs.Fn.{Mut, Called}
 use Rattle.std.proofs.lemmas.Bool.{eqb-true, ne_eqb}
 use Rattle.days.proofs.Asked.{passed}
 use Rattle.days.specs.Questions.{first_failing}
@@ -60,30 +58,30 @@ module _ (ws : List ℕ) where
         told : lines ≡ map line_told (entries_of ws)
         told = all_told lines (left t) (left s) long (none_after t.place t.rest.now (sym closed)) read.told ∙ ap (map line_told) (λ i. entries_from (second i) (rest i))
 
-        -- an array of what a function gives of each line
-        mapped : {F B : Type 0} (g : Mut F (Line × Unit {0}) B) {f : F} (h : Line → B) (ys : List B) → IsMapOf g f lines ys 29 → ((p q : F) (l : Line) (y : B) → Called g p (l, tt) y q → y ≡ h l) → ys ≡ map (λ e. h (line_told e)) (entries_of ws)
-        mapped g h ys m gives =
+        -- a list of what a function gives of each line
+        mapped : {B : Type 0} (h : Line → B) (ys : List B) → length ys ≡ 29 → ((k : ℕ) (d : B) → k < 29 → get_or ys k d ≡ h (get_or lines k (line_told no_item))) → ys ≡ map (λ e. h (line_told e)) (entries_of ws)
+        mapped h ys many each =
             let d = line_told no_item in
-            ext_get_or (h d) ys (map h lines) (m.long ∙ sym long ∙ sym (length-map lines h))
-            (λ i l. let at = m.at i d (h d) (omega (arith, m.long)) in gives _ _ _ _ at.2 ∙ sym (get_or-map h lines i d (h d) (omega (arith, m.long))))
+            ext_get_or (h d) ys (map h lines) (many ∙ sym long ∙ sym (length-map lines h))
+            (λ i l. each i (h d) (omega (arith, many)) ∙ sym (get_or-map h lines i d (h d) (omega (arith, many))))
             ∙ ap (map h) told ∙ map-map h line_told (entries_of ws)
 
         -- the days of the lines
-        module _ {F : Type 0} (g : Mut F (Line × Unit {0}) ℕ) {f : F} (days : List ℕ) (each : IsMapOf g f lines days 29) (gives : (p q : F) (l : Line) (d : ℕ) → Called g p (l, tt) d q → d ≡ l.day) where
+        module _ (days : List ℕ) (many : length days ≡ 29) (each : (k d : ℕ) → k < 29 → get_or days k d ≡ (get_or lines k (line_told no_item)).day) where
           then_days : first_failing (asked ws) ≡ first_failing (of_days days 29 0)
           then_days =
               passed_first (of_words opening 0 ws) _ (asked_on ∙ sym read.asked ∙ sym closed)
-              ∙ ap (λ (d : List ℕ). first_failing (of_days d 29 0)) (sym (mapped g (λ l. l.day) days each gives))
+              ∙ ap (λ (d : List ℕ). first_failing (of_days d 29 0)) (sym (mapped (λ l. l.day) days many each))
 
           pub day_refused : (f' : SheetFault) → first_failing (of_days days 29 0) ≡ Some (told_sheet f') → Kept ws (Err f')
           day_refused f' e = record { told = sym (then_days ∙ e); page = tt }
 
-          pub all_passed : {G : Type 0} (k : Mut G (Line × Unit {0}) (Option ℤ)) {j : G} (r : Reading) → r.valuation ≡ v → (r.days.days ≡ days) × (first_failing (of_days days 29 0) ≡ None) → IsMapOf k j lines r.figures 29 → ((p q : G) (l : Line) (x : Option ℤ) → Called k p (l, tt) x q → x ≡ l.figure) → Kept ws (Ok r)
-          all_passed k r dated tabled figures shows = record {
+          pub all_passed : (r : Reading) → r.valuation ≡ v → (r.days.days ≡ days) × (first_failing (of_days days 29 0) ≡ None) → length r.figures ≡ 29 → ((k : ℕ) (x : Option ℤ) → k < 29 → get_or r.figures k x ≡ (get_or lines k (line_told no_item)).figure) → Kept ws (Ok r)
+          all_passed r dated tabled long' shows = record {
             told = sym (then_days ∙ tabled.1);
             page = record {
               dated = dated ∙ begun.dated;
-              tabled = tabled.0 ∙ mapped g (λ l. l.day) days each gives;
-              shown = λ n. ap (λ (l : List (Option ℤ)). get_or l n None) (mapped k (λ l. l.figure) r.figures figures shows);
+              tabled = tabled.0 ∙ mapped (λ l. l.day) days many each;
+              shown = λ n. ap (λ (l : List (Option ℤ)). get_or l n None) (mapped (λ l. l.figure) r.figures long' shows);
             };
           }

@@ -1,5 +1,6 @@
 -- What a sheet's reading says of the page that it means.
-use Rattle.std.proofs.Common.{◌≡◌, ℕ, List, is_ok, IsOkAnd, MatchResult, Ok, Err, Result, sym, ap, ◌∙◌, subst}
+use Rattle.std.proofs.Common.{◌≡◌, ℕ, List, is_ok, IsOkAnd, MatchOption, MatchResult, Ok, Err, Result, sym, ap, ◌∙◌, subst, Bor}
+use Rattle.std.specs.Result.{result_copied, result_ok}
 use base.Stored.{Coded-set, coded_ℕ, coded_ℤ, coded_list}
 use Rattle.std.specs.Coded.{coded_option}
 use Rattle.days.specs.contracts.refusal.Refusal.{the_row}
@@ -38,7 +39,9 @@ module _ (ws : List ℕ) where
       shown = λ n. ∥∥₁_rec (Coded-set (coded_option coded_ℤ) _ _) (λ k'. (holds k').shown n) k;
     }
 
-  -- what an accepted sheet's reading tells, or the blank page
-  pub means : {P : SheetFault → Type 0} (o : Result Reading SheetFault) (r : Reading) → ∥ Kept ws o ∥₁ → MatchResult o (λ x. r ≡ x) P → ((f : SheetFault) → P f → Holds blank_page r) → Holds (sheet_page ws) r
-  means (Ok x) r k is blank = subst (λ (q : Reading). Holds (sheet_page ws) q) (sym is) (all_held x k)
-  means (Err f) r k is blank = subst (λ (p : Page). Holds p r) (sym (means_blank ws (sym (tested (Err f) k)))) (blank f is)
+  -- what a sheet's reading tells, if it is lent; otherwise the sheet means the blank page
+  pub means : (o : Result Reading SheetFault) (lent : Result (Bor Reading) (Bor SheetFault)) → ∥ Kept ws o ∥₁ → result_copied lent ≡ o → MatchOption (result_ok lent) (sheet_page ws ≡ blank_page) (λ x. Holds (sheet_page ws) x.now)
+  means (Ok x) (Ok b) k is = let z : b.now ≡ x = cc in subst (λ (q : Reading). Holds (sheet_page ws) q) (sym z) (all_held x k)
+  means (Ok x) (Err e) k is = absurd cc
+  means (Err f) (Ok b) k is = absurd cc
+  means (Err f) (Err e) k is = means_blank ws (sym (tested (Err f) k))

@@ -15,6 +15,7 @@ use days::lines::{LINES, in_range};
 use days::refusal::Refusal;
 use days::table::DayTable;
 use sources::source::LAST_VALUATION_DAY;
+use std::array;
 
 // The valuation day that the opening word tells.
 fn valuation_day(words: &[u32]) -> Result<u32, SheetFault>
@@ -112,8 +113,8 @@ pub(crate) fn read_words(words: &[u32]) -> Result<Reading, SheetFault>
     let mut entries = Entries::after_opening(words);
     let lines = entries.read_lines()?;
     entries.ask_closing()?;
-    let days = day_table(lines.map(|line| line.day))?;
-    let figures = lines.map(|line| line.figure);
+    let days = day_table(array::from_fn(|line| lines[line].day))?;
+    let figures = array::from_fn(|line| lines[line].figure);
     Ok(Reading {
         valuation,
         days,

@@ -1,8 +1,8 @@
 // What a sheet means: as a quote source, and entry by entry.
-ghost use Rattle.std.specs.Prelude.{◌≡◌};
+ghost use Rattle.std.specs.Prelude.{◌≡◌, MatchOption};
 ghost use Rattle.sheets.specs.Checked.{Checked};
 ghost use Rattle.sheets.specs.Kept.{Holds};
-ghost use Rattle.sheets.specs.Meaning.{sheet_page};
+ghost use Rattle.sheets.specs.Meaning.{blank_page, sheet_page};
 ghost use Rattle.sheets.specs.Reader.{ReaderOf};
 ghost use Rattle.sources.specs.Page.{Sound};
 
@@ -44,12 +44,12 @@ impl<'a> Sheet<'a> {
         Entries::after_opening(words)
     }
 
-    // What it tells; a refused sheet tells the blank page.
-    fn reading(&self) -> Reading
-        ensures told { Holds (sheet_page self.now.words.now) result }
+    // What it tells; a refused sheet, which means the blank page, tells nothing.
+    fn reading(&self) -> Option<&Reading>
+        ensures told { MatchOption result (sheet_page self.now.words.now ≡ blank_page) (λ r. Holds (sheet_page self.now.words.now) r.now) }
         ensures sound { Sound (sheet_page self.now.words.now) }
     {
-        self.outcome.unwrap_or_else(|_| Reading::blank())
+        self.outcome.as_ref().ok()
     }
 }
 
@@ -58,14 +58,15 @@ impl QuoteSource for Sheet<'_> {
     ghost page = { λ s. sheet_page s.words.now };
 
     fn valuation_day(&self) -> u32 {
-        self.reading().valuation
+        self.reading().map_or(0, |reading| reading.valuation)
     }
 
     fn days(&self) -> DayTable {
-        self.reading().days
+        self.reading()
+            .map_or_else(DayTable::blank, |reading| reading.days)
     }
 
     fn figure(&self, line: usize) -> Option<i32> {
-        self.reading().figure(line)
+        self.reading()?.figure(line)
     }
 }

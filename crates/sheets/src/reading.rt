@@ -1,7 +1,5 @@
 // What reading a sheet gives.
 ghost use Rattle.std.specs.Prelude.{◌≡◌, None, slice_index_or};
-ghost use Rattle.sheets.specs.Kept.{Holds};
-ghost use Rattle.sheets.specs.Meaning.{blank_page};
 
 use days::lines::LINES;
 use days::table::DayTable;
@@ -14,17 +12,6 @@ pub(crate) struct Reading {
 }
 
 impl Reading {
-    // What the blank page tells.
-    pub(crate) fn blank() -> Reading
-        ensures { Holds blank_page result }
-    {
-        Reading {
-            valuation: 0,
-            days: DayTable::blank(),
-            figures: [None; LINES],
-        }
-    }
-
     // A line's figure, or nothing; nothing above line 28.
     pub(crate) fn figure(&self, line: usize) -> Option<i32>
         ensures { result ≡ slice_index_or self.now.figures line None }

@@ -1,5 +1,8 @@
-use Rattle.std.proofs.Common.{refl, rules}
+use Rattle.std.proofs.Common.{◌≡◌, ℕ, ℤ, length, get_or, Option, refl, rules}
 use Rattle.std.proofs.lemmas.Result.{err_from_is_err_and}
+use Rattle.days.proofs.Made.{made}
+use Rattle.sheets.specs.Entries.{no_item}
+use Rattle.sheets.specs.Views.{line_told}
 use Rattle.sheets.proofs.Ends.{word_refused, line_refused, closing_refused, day_refused, all_passed}
 use Rattle.sheets.proofs.checking.read_words.Goals as goal
 
@@ -18,10 +21,18 @@ returns-in_err-ask_closing c =
 pub returns-in_err-days : goal.returns-in_err-days
 returns-in_err-days c =
     let p = err_from_is_err_and c.from_residual-in_err-days.result c.from_residual-in_err-days.ensures.1 in
+    let long : length c.in_ok-lines.lines ≡ 29 = search rules in
     let reader = c.after_opening-entries.ensures in
-    rw (p.1, p.2) (day_refused c.args.words.now _ _ c.in_ok-valuation.ensures reader.place reader.rest _ _ c.in_ok-lines.ensures (search rules) c.in_ok-ask_closing.ensures _ _ c.map.ensures.items (λ p q l d is. search rules) _ c.in_err-days.ensures)
+    let days = c.from_fn.ensures.items in
+    let each = made _ _ (λ (k : ℕ) (d : ℕ). d ≡ (get_or c.in_ok-lines.lines k (line_told no_item)).day) (λ k y q t. search rules) in
+    rw (p.1, p.2) (day_refused c.args.words.now _ _ c.in_ok-valuation.ensures reader.place reader.rest _ _ c.in_ok-lines.ensures long c.in_ok-ask_closing.ensures c.from_fn.result days.long (λ k d h. each c.from_fn.result d 29 days k h) _ c.in_err-days.ensures)
 
 pub returns : goal.returns
 returns c =
+    let long : length c.in_ok-lines.lines ≡ 29 = search rules in
     let reader = c.after_opening-entries.ensures in
-    all_passed c.args.words.now _ _ c.in_ok-valuation.ensures reader.place reader.rest _ _ c.in_ok-lines.ensures (search rules) c.in_ok-ask_closing.ensures _ _ c.map.ensures.items (λ p q l d is. search rules) _ _ refl c.in_ok-days.ensures c.map-figures.ensures.items (λ p q l x is. search rules)
+    let days = c.from_fn.ensures.items in
+    let figures = c.from_fn-figures.ensures.items in
+    let each_day = made _ _ (λ (k : ℕ) (d : ℕ). d ≡ (get_or c.in_ok-lines.lines k (line_told no_item)).day) (λ k y q t. search rules) in
+    let each_figure = made _ _ (λ (k : ℕ) (x : Option ℤ). x ≡ (get_or c.in_ok-lines.lines k (line_told no_item)).figure) (λ k y q t. search rules) in
+    all_passed c.args.words.now _ _ c.in_ok-valuation.ensures reader.place reader.rest _ _ c.in_ok-lines.ensures long c.in_ok-ask_closing.ensures c.from_fn.result days.long (λ k d h. each_day c.from_fn.result d 29 days k h) _ refl c.in_ok-days.ensures figures.long (λ k x h. each_figure c.from_fn-figures.result x 29 figures k h)
