@@ -1,8 +1,9 @@
 // How a board is made and quoted on.
-ghost use Rattle.std.specs.Prelude.{◌≡◌, ◌<◌, ◌≤◌, Some, None, MatchResult, OnOk, set, replicate, [], ◌∷◌, ◌++◌};
+ghost use Rattle.std.specs.Prelude.{◌≡◌, ℕ, ◌<◌, ◌≤◌, Some, None, MatchResult, OnOk, set, map, replicate, [], ◌∷◌, ◌++◌};
 ghost use Rattle.days.specs.Questions.{ask as question, refusal_of, first_failing};
 ghost use Rattle.days.specs.Told.{told_source};
 ghost use Rattle.sources.specs.Page.{Present};
+ghost use Rattle.boards.specs.declared.provider.Provider.{Provider as Provided};
 ghost use Rattle.boards.specs.Quotes.{share_of};
 ghost use Rattle.boards.specs.Board.{shares_of, board_page, Fresh, OnlyQuote, OnlyLine};
 ghost use Rattle.boards.specs.Quoting.{of_provider, of_line, of_figure, unquoting, quoting, Refused};
@@ -80,10 +81,17 @@ impl Provider {
     }
 }
 
+// Providers who have quoted nothing, with these shares. Not inlined: they are then moved all at once, and not one by one.
+#[inline(never)]
+fn silent(shares: [u32; PROVIDERS]) -> [Provider; PROVIDERS]
+    requires { (p : ℕ) → share_of shares p ≤ 10000 }
+    ensures { (map (λ (p : Provided). p.share) result ≡ shares) × (map (λ (p : Provided). p.quotes) result ≡ replicate 8 (replicate 29 None)) }
+{
+    array::from_fn(|provider| Provider::new(shares[provider]))
+}
+
 impl Board {
     // A board without quotes, or a refusal: of its valuation day, or of the lowest provider's share that is too large.
-    // Not inlined: a caller then moves the new board in one piece, and not provider by provider.
-    #[inline(never)]
     pub fn new(
         valuation: u32,
         days: DayTable,
@@ -101,7 +109,7 @@ impl Board {
         Ok(Board {
             valuation,
             days,
-            providers: array::from_fn(|provider| Provider::new(shares[provider])),
+            providers: silent(shares),
         })
     }
 

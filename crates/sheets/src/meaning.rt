@@ -36,12 +36,13 @@ impl<'a> Sheet<'a> {
     pub fn entries(&self) -> Entries<'a>
         ensures { ReaderOf self.now.words result }
     {
-        let words = if self.outcome.is_ok() {
-            self.words
-        } else {
-            &[]
-        };
-        Entries::after_opening(words)
+        if self.outcome.is_err() {
+            return Entries {
+                rest: &[],
+                place: 0,
+            };
+        }
+        Entries::after_opening(self.words)
     }
 
     // What it tells; a refused sheet, which means the blank page, tells nothing.
@@ -62,8 +63,10 @@ impl QuoteSource for Sheet<'_> {
     }
 
     fn days(&self) -> DayTable {
-        self.reading()
-            .map_or_else(DayTable::blank, |reading| reading.days)
+        match self.reading() {
+            Some(reading) => reading.days,
+            None => DayTable::blank(),
+        }
     }
 
     fn figure(&self, line: usize) -> Option<i32> {

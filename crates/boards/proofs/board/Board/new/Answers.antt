@@ -1,18 +1,14 @@
-use Rattle.std.proofs.Common.{◌≡◌, ℕ, length, get_or, replicate, None, refl, ap, ◌∙◌, rules}
-use Rattle.days.proofs.Made.{made as each_made}
-use Rattle.boards.specs.declared.provider.Provider.{Provider}
+use Rattle.std.proofs.Common.{refl, ap, ◌∙◌}
 use Rattle.boards.specs.Quotes.{latest}
 use Rattle.boards.specs.Board.{shares_of, quotes_of}
-use Rattle.boards.proofs.Fresh.{no_quotes, made}
+use Rattle.boards.proofs.Fresh.{no_quotes}
 use Rattle.boards.proofs.board.Board.new.Goals as goal
 
 pub returns : goal.returns
 unfolding shares_of quotes_of
-returns c =
-    let s = c.args.shares in
-    let eight : length s ≡ 8 = search rules in
-    let ps = c.from_fn.result in
-    let i = c.from_fn.ensures.items in
-    let each = each_made _ _ (λ (k : ℕ) (p : Provider). (p.share ≡ get_or s k 0) × (p.quotes ≡ replicate 29 None)) (λ k y q t. search rules) in
-    let m = made (replicate 29 None) 8 s ps eight i.long (λ k d h. each ps d 8 i k h) in
-    record { dated = refl; tabled = refl; shared = m.0; empty = λ p k. ap (λ q. latest q p k) m.1 ∙ no_quotes 8 29 p k }
+returns c = record {
+  dated = refl;
+  tabled = refl;
+  shared = c.silent.ensures.0;
+  empty = λ p k. ap (λ q. latest q p k) c.silent.ensures.1 ∙ no_quotes 8 29 p k;
+}
